@@ -1,0 +1,79 @@
+-- The refusals' table and the ranges of the settings, tried at their ends.
+-- Assumes nothing.
+use Prim.Native.Nat.{ℕ}
+use mathlib.Core.Path.{_≡_, refl}
+use mathlib.Core.List.{List, [], _∷_, map}
+use mathlib.Core.Option.{none, some}
+use Rattle.limits.specs.declared.Refusal.{Refusal}
+use Rattle.limits.specs.declared.Refusal.the-variants.{InvalidSetting, MalformedFrame, UnknownActivity, MisplacedEndpoint, TooLarge, EmptyLog, InvalidPlace, BufferTooSmall}
+use Rattle.limits.specs.declared.Settings.{Settings}
+use Rattle.limits.specs.Refusals.{number, value, firstRefusal}
+use Rattle.limits.specs.Settings.{boundFault, boundAndThresholdFault, settingsFault}
+use Rattle.limits.proofs.Opened.{opened}
+
+-- one of each, in the table's order, at line or index 9
+abbrev table : List Refusal
+table =
+    InvalidSetting
+    ∷ MalformedFrame 9
+    ∷ UnknownActivity 9
+    ∷ MisplacedEndpoint 9
+    ∷ TooLarge 9
+    ∷ EmptyLog
+    ∷ InvalidPlace 9
+    ∷ BufferTooSmall
+    ∷ []
+
+abbrev set : ℕ → ℕ → ℕ → ℕ → Settings
+set A mi mo T = record { activities = A; inputs = mi; outputs = mo; threshold = T }
+
+pub record Examples : Type 0 where
+  pub numbers : map number table ≡ 1 ∷ 2 ∷ 3 ∷ 4 ∷ 5 ∷ 6 ∷ 7 ∷ 8 ∷ []
+  pub values : map value table ≡ 0 ∷ 9 ∷ 9 ∷ 9 ∷ 9 ∷ 0 ∷ 9 ∷ 0 ∷ []
+  pub places-before-room :
+      firstRefusal
+      (record {
+        settings = none;
+        places = some (InvalidPlace 1);
+        room = some BufferTooSmall;
+        emptiness = some EmptyLog;
+        lines = some (TooLarge 2);
+      })
+      ≡ some (InvalidPlace 1)
+  pub room-before-log :
+      firstRefusal
+      (record { settings = none; places = none; room = some BufferTooSmall; emptiness = some EmptyLog; lines = none })
+      ≡ some BufferTooSmall
+  pub settings-first :
+      firstRefusal
+      (record {
+        settings = some InvalidSetting;
+        places = some (InvalidPlace 1);
+        room = none;
+        emptiness = none;
+        lines = some (TooLarge 2);
+      })
+      ≡ some InvalidSetting
+  pub bounds : map boundFault (2 ∷ 16 ∷ []) ≡ none ∷ none ∷ []
+  pub bounds-refused : map boundFault (1 ∷ 17 ∷ []) ≡ some InvalidSetting ∷ some InvalidSetting ∷ []
+  pub thresholds : map (boundAndThresholdFault 6) (0 ∷ 1000 ∷ 1001 ∷ []) ≡ none ∷ none ∷ some InvalidSetting ∷ []
+  pub sizes : map settingsFault (set 6 1 6 0 ∷ set 6 6 1 1000 ∷ []) ≡ none ∷ none ∷ []
+  pub sizes-refused :
+      map settingsFault (set 6 0 1 0 ∷ set 6 1 0 0 ∷ set 6 7 1 0 ∷ set 6 1 7 0 ∷ set 6 1 1 1001 ∷ set 1 1 1 0 ∷ [])
+      ≡ map (λ (r : Refusal). some r) (InvalidSetting ∷ InvalidSetting ∷ InvalidSetting ∷ InvalidSetting ∷ InvalidSetting ∷ InvalidSetting ∷ [])
+
+pub examples : Examples
+unfolding opened
+examples =
+    record {
+      numbers = refl;
+      values = refl;
+      places-before-room = refl;
+      room-before-log = refl;
+      settings-first = refl;
+      bounds = refl;
+      bounds-refused = refl;
+      thresholds = refl;
+      sizes = refl;
+      sizes-refused = refl;
+    }

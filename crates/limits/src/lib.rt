@@ -1,0 +1,25 @@
+// The settings of a call and the refusals that every call can answer with: document 01, "Settings and the log".
+
+// A, mi, mo and T of document 01. Their ranges are in specs/Settings.antt.
+pub struct Settings {
+    // A, the activity bound: codes run from 0 to A - 1
+    pub activities: u8,
+    // mi, the most inputs of a place
+    pub inputs: u8,
+    // mo, the most outputs of a place
+    pub outputs: u8,
+    // T, the threshold in thousandths
+    pub threshold: u16,
+}
+
+// Why a call is refused. Document 01's number and value of each are in specs/Refusals.antt.
+pub enum Refusal {
+    InvalidSetting,
+    MalformedFrame { line: usize },
+    UnknownActivity { line: usize },
+    MisplacedEndpoint { line: usize },
+    TooLarge { line: usize },
+    EmptyLog,
+    InvalidPlace { index: usize },
+    BufferTooSmall,
+}
