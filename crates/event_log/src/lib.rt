@@ -1,0 +1,14 @@
+// Case logs: document 01, "Settings and the log".
+use limits::Refusal;
+
+// What a byte is as a hexadecimal digit.
+pub enum Digit {
+    Value(u8),
+    NonDigit,
+}
+
+// What checking a log answers: its number of frames and N, or the refusal.
+pub enum Checked {
+    Accepted { frames: usize, cases: u64 },
+    Refused(Refusal),
+}
