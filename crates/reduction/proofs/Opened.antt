@@ -1,0 +1,9 @@
+-- One name for all definitions of this layer and of those below it: a proof by computation says `unfolding opened`.
+-- Assumes nothing.
+use Rattle.reduction.specs.Unions.{joinAll, samePlace, compose, isUnion}
+use Rattle.reduction.specs.Reduction.{redundant, reducedWords, reductionRefusal, reduced, reducedAfter}
+use Rattle.places.proofs.Opened.{opened as opened-places}
+
+unfoldable pub opened : Unit {0}
+unfolding joinAll samePlace compose isUnion redundant reducedWords reductionRefusal reduced reducedAfter opened-places
+opened = tt
