@@ -1,0 +1,10 @@
+-- One name for all definitions of this layer and of those below it: a proof by computation says `unfolding opened`.
+-- Assumes nothing.
+use Rattle.report.specs.Writing.{placeLine, listText, writingRefusal, written, writtenAfter}
+use Rattle.report.specs.Program.{capacity, settingsMalformed, settingsIn, logIn, programRefusal, refusalLine, resultLine, reportedWords, report, placelist}
+use Rattle.discovery.proofs.Opened.{opened as opened-discovery}
+use Rattle.reduction.proofs.Opened.{opened as opened-reduction}
+
+unfoldable pub opened : Unit {0}
+unfolding placeLine listText writingRefusal written writtenAfter capacity settingsMalformed settingsIn logIn programRefusal refusalLine resultLine reportedWords report placelist opened-discovery opened-reduction
+opened = tt

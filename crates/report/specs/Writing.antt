@@ -1,0 +1,35 @@
+-- Writing a list of places as text. Document 01, "Thinning and writing", the writer.
+-- Assumes nothing.
+use Prim.Native.Nat.{ℕ, _*_}
+use mathlib.Core.List.{List, [], _∷_, _++_, flatMap}
+use mathlib.Core.Option.{Option}
+use lib.Dec.{ltb}
+use lib.ListN.{length}
+use Rattle.foundation.specs.Buffers.{overwrite}
+use Rattle.limits.specs.declared.Refusal.{Refusal}
+use Rattle.limits.specs.Refusals.{answer}
+use Rattle.places.specs.Places.{placeOf, wordsRefusal}
+use Rattle.event_log.specs.Digits.{writeHex, lineFeed}
+use Rattle.report.specs.declared.Written.{Written}
+use Rattle.report.specs.declared.Written.the-variants.{Bytes, Refused}
+
+-- the line of a place: four digits of inputs, four of outputs, a line feed
+unfoldable pub placeLine : ℕ → List ℕ
+placeLine w = writeHex 4 (placeOf w .inputs) ++ writeHex 4 (placeOf w .outputs) ++ (lineFeed ∷ [])
+
+-- the lines of a list
+unfoldable pub listText : List ℕ → List ℕ
+listText words = flatMap placeLine words
+
+-- the buffer is to have room for the 9 bytes of each place
+unfoldable pub writingRefusal : List ℕ → ℕ → Option Refusal
+writingRefusal words room = wordsRefusal words (ltb room (9 * length words))
+
+-- the call's answer for a buffer of that many bytes: the bytes written
+unfoldable pub written : List ℕ → ℕ → Written
+written words room = answer Refused (writingRefusal words room) (Bytes (length (listText words)))
+
+-- what the buffer holds on return: the lines, then its old tail; after a refusal, what it held before
+unfoldable pub writtenAfter : List ℕ → List ℕ → List ℕ
+writtenAfter words before =
+    answer (λ (r : Refusal). before) (writingRefusal words (length before)) (overwrite (listText words) before)
