@@ -13,7 +13,7 @@ use Rattle.event_log.proofs.Examples.{figure1Log}
 use Rattle.replay.specs.declared.Verdict.the-variants.{Underfed, Both}
 use Rattle.discovery.specs.declared.Discovered.{Discovered}
 use Rattle.discovery.specs.declared.Discovered.the-variants.{Ran, Refused}
-use Rattle.discovery.specs.Rejected.{rejectedWord, rulesUnderfed, rulesOverfed}
+use Rattle.discovery.specs.Rejected.{rejectedWord, markIn, rulesUnderfed, rulesOverfed, ruled}
 use Rattle.discovery.specs.Search.{Capacity, holding}
 use Rattle.discovery.specs.Discovery.{discovered, foundAfter, rejectedAfter}
 use Rattle.discovery.proofs.Opened.{opened}
@@ -24,12 +24,15 @@ around = place 0x0001 0x0006 ∷ place 0x0005 0x0006 ∷ place 0x0005 0x0002 ∷
 
 pub record RulingExamples : Type 0 where
   pub word-of-both : rejectedWord (place 0x0005 0x0006) Both ≡ 0x300060005
+  pub marks : map markIn (0x100000000 ∷ 0x2FFFFFFFF ∷ 0x300010001 ∷ []) ≡ 1 ∷ 2 ∷ 3 ∷ []
   pub underfed : map (λ (c : Place). rulesUnderfed c 0x100060005) around ≡ true ∷ true ∷ false ∷ false ∷ []
   pub underfed-only : map (λ (c : Place). rulesOverfed c 0x100060005) around ≡ false ∷ false ∷ false ∷ false ∷ []
   pub overfed : map (λ (c : Place). rulesOverfed c 0x200060005) around ≡ false ∷ true ∷ true ∷ false ∷ []
   pub overfed-only : map (λ (c : Place). rulesUnderfed c 0x200060005) around ≡ false ∷ false ∷ false ∷ false ∷ []
   pub both-lighter : map (λ (c : Place). rulesUnderfed c 0x300060005) around ≡ true ∷ true ∷ false ∷ false ∷ []
   pub both-heavier : map (λ (c : Place). rulesOverfed c 0x300060005) around ≡ false ∷ true ∷ true ∷ false ∷ []
+  -- a word with no mark, or with one above 3, rules nothing
+  pub other-marks : map (ruled (0x000060005 ∷ 0x400060005 ∷ 0x500060005 ∷ 0x600060005 ∷ [])) around ≡ false ∷ false ∷ false ∷ false ∷ []
 
 abbrev settings : ℕ → ℕ → ℕ → Settings
 settings activities inputs outputs = record { activities = activities; inputs = inputs; outputs = outputs; threshold = 0 }
@@ -74,12 +77,14 @@ unfolding opened
 ruling-examples =
     record {
       word-of-both = refl;
+      marks = refl;
       underfed = refl;
       underfed-only = refl;
       overfed = refl;
       overfed-only = refl;
       both-lighter = refl;
       both-heavier = refl;
+      other-marks = refl;
     }
 
 pub run-examples : RunExamples

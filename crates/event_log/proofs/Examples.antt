@@ -57,6 +57,7 @@ pub record FaultExamples : Type 0 where
   pub setting-first : checked 1 [] ≡ Refused InvalidSetting
   pub empty : checked 2 [] ≡ Refused EmptyLog
   pub no-line-feed : checked 6 (bytes "0001000201") ≡ Refused (MalformedFrame 0)
+  pub other-line-end : checked 6 (bytes "00010001\t") ≡ Refused (MalformedFrame 0)
   pub odd : checked 6 (bytes "000100021\n") ≡ Refused (MalformedFrame 0)
   pub too-few : checked 6 (bytes "000100\n") ≡ Refused (MalformedFrame 0)
   pub lower-case : checked 16 (bytes "0001000a01\n") ≡ Refused (MalformedFrame 0)
@@ -68,6 +69,7 @@ pub record FaultExamples : Type 0 where
   pub unknown-before-misplaced : checked 6 (bytes "00010600\n") ≡ Refused (UnknownActivity 0)
   pub first-not-start : checked 6 (bytes "0001020301\n") ≡ Refused (MisplacedEndpoint 0)
   pub last-not-end : checked 6 (bytes "0001000203\n") ≡ Refused (MisplacedEndpoint 0)
+  pub last-is-start : checked 6 (bytes "0001000200\n") ≡ Refused (MisplacedEndpoint 0)
   pub start-inside : checked 6 (bytes "0001000001\n") ≡ Refused (MisplacedEndpoint 0)
   pub end-inside : checked 6 (bytes "0001000101\n") ≡ Refused (MisplacedEndpoint 0)
   pub last-line : lineFault 2 4095 (record { bytes = bytes "00010001"; ended = true }) ≡ none
@@ -118,6 +120,7 @@ fault-examples =
       setting-first = refl;
       empty = refl;
       no-line-feed = refl;
+      other-line-end = refl;
       odd = refl;
       too-few = refl;
       lower-case = refl;
@@ -129,6 +132,7 @@ fault-examples =
       unknown-before-misplaced = refl;
       first-not-start = refl;
       last-not-end = refl;
+      last-is-start = refl;
       start-inside = refl;
       end-inside = refl;
       last-line = refl;

@@ -49,7 +49,7 @@ figure1 = place 0x0001 0x0004 ∷ place 0x0001 0x0008 ∷ place 0x0004 0x0030 �
 
 pub record PlaceExamples : Type 0 where
   pub written : word (place 0x0030 0x0002) ≡ 0x00020030
-  pub read : placeOf 0x00020030 ≡ place 0x0030 0x0002
+  pub read : map placeOf (0x00020030 ∷ 0xFFFF0001 ∷ []) ≡ place 0x0030 0x0002 ∷ place 0x0001 0xFFFF ∷ []
   pub refused :
       map (placeFault 6 9) (place 0x003F 0x0001 ∷ place 0x0040 0x0001 ∷ place 0x0001 0x0040 ∷ place 0 1 ∷ place 1 0 ∷ [])
       ≡ none ∷ some (InvalidPlace 9) ∷ some (InvalidPlace 9) ∷ some (InvalidPlace 9) ∷ some (InvalidPlace 9) ∷ []

@@ -35,6 +35,7 @@ pub record Examples : Type 0 where
   -- a repeated word is not two parts of itself, and both fare alike
   pub repeated : reducedWords (pair 1 2 ∷ pair 1 2 ∷ []) ≡ pair 1 2 ∷ pair 1 2 ∷ []
   pub repeated-union : reducedWords (pair 3 3 ∷ pair 1 1 ∷ pair 3 3 ∷ pair 2 2 ∷ []) ≡ pair 1 1 ∷ pair 2 2 ∷ []
+  pub of-two : reducedWords (pair 2 2 ∷ pair 4 4 ∷ pair 6 6 ∷ []) ≡ pair 2 2 ∷ pair 4 4 ∷ []
   pub of-three : reducedWords three ≡ pair 1 1 ∷ pair 2 2 ∷ pair 4 4 ∷ []
   -- a dropped place is still a part of others: 7/7 is 3/3 and 4/4 too
   pub nested : reducedWords (pair 1 1 ∷ pair 2 2 ∷ pair 3 3 ∷ pair 4 4 ∷ pair 7 7 ∷ []) ≡ pair 1 1 ∷ pair 2 2 ∷ pair 4 4 ∷ []
@@ -42,6 +43,7 @@ pub record Examples : Type 0 where
   pub shares-input : reducedWords (pair 3 1 ∷ pair 6 2 ∷ pair 7 3 ∷ []) ≡ pair 3 1 ∷ pair 6 2 ∷ pair 7 3 ∷ []
   pub shares-output : reducedWords (pair 1 3 ∷ pair 2 6 ∷ pair 3 7 ∷ []) ≡ pair 1 3 ∷ pair 2 6 ∷ pair 3 7 ∷ []
   pub uncovered : reducedWords (pair 1 1 ∷ pair 2 2 ∷ pair 7 3 ∷ []) ≡ pair 1 1 ∷ pair 2 2 ∷ pair 7 3 ∷ []
+  pub uncovered-output : reducedWords (pair 1 1 ∷ pair 2 2 ∷ pair 3 7 ∷ []) ≡ pair 1 1 ∷ pair 2 2 ∷ pair 3 7 ∷ []
   pub answers : reduced three 4 ≡ Kept 3
   pub none : reduced [] 0 ≡ Kept 0
   pub too-short : reduced three 3 ≡ Refused BufferTooSmall
@@ -72,11 +74,13 @@ examples =
       alone = refl;
       repeated = refl;
       repeated-union = refl;
+      of-two = refl;
       of-three = refl;
       nested = refl;
       shares-input = refl;
       shares-output = refl;
       uncovered = refl;
+      uncovered-output = refl;
       answers = refl;
       none = refl;
       too-short = refl;

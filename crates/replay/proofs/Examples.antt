@@ -86,6 +86,7 @@ pub record AnswerExamples : Type 0 where
   pub whole-log : replayed 2 (bytes "00010001\n0000") (place 0x0001 0x0002) ≡ ReplayedAs.Refused (MalformedFrame 1)
   pub first-line : replayed 3 (bytes "00010001\n0001000201\n") (place 0x0001 0x0004) ≡ ReplayedAs.Balances (pos 0) (pos 1)
   pub threshold : judged 2 1001 (bytes "00010001\n") (place 0x0001 0x0002) ≡ JudgedAs.Refused InvalidSetting
+  pub judged-no-place : judged 2 0 [] (place 0x0001 0x0004) ≡ JudgedAs.Refused (InvalidPlace 0)
   pub judged-place : judged 5 175 figure3Log (place 0x0001 0x0004) ≡ JudgedAs.Counted (counts 31 17 49 0) Both
   pub judged-higher : judged 5 176 figure3Log (place 0x0001 0x0004) ≡ JudgedAs.Counted (counts 31 17 49 0) Overfed
 
@@ -133,6 +134,7 @@ answer-examples =
       whole-log = refl;
       first-line = refl;
       threshold = refl;
+      judged-no-place = refl;
       judged-place = refl;
       judged-higher = refl;
     }

@@ -9,7 +9,7 @@ use Rattle.limits.specs.declared.Refusal.the-variants.{InvalidPlace, BufferTooS
 use Rattle.discovery.specs.Search.{State, going, stopped}
 use Rattle.report.specs.declared.Written.the-variants.{Bytes, Refused}
 use Rattle.report.specs.Writing.{written, writtenAfter}
-use Rattle.report.specs.Program.{report, placelist}
+use Rattle.report.specs.Program.{capacity, report, placelist}
 use Rattle.report.proofs.Opened.{opened}
 
 -- 0001/0002, FFFE/00A0
@@ -36,6 +36,7 @@ state =
     }
 
 pub record ProgramExamples : Type 0 where
+  pub given : capacity ≡ record { rejected = 1024; found = 4096; budget = 1000000 }
   -- reduced after end 0, and as found otherwise
   pub completed : report (going state) ≡ bytes "00010001\n00020002\n00000000FF00001000\n"
   pub stopped-early : report (stopped 1 state) ≡ bytes "00010001\n00020002\n00030003\n01000000FF00001000\n"
@@ -43,6 +44,7 @@ pub record ProgramExamples : Type 0 where
   pub largest : placelist (replicate 65536 48) ≡ bytes "FF0100000000\n"
   pub no-input : placelist [] ≡ bytes "FF0100000000\n"
   pub lower-case : placelist (bytes "0a01010000\n00010001\n") ≡ bytes "FF0100000000\n"
+  pub non-digit : placelist (bytes "02010100g0\n00010001\n") ≡ bytes "FF0100000000\n"
   pub no-line-feed : placelist (bytes "0201010000") ≡ bytes "FF0100000000\n"
   pub too-long-a-frame : placelist (bytes "02010100000\n00010001\n") ≡ bytes "FF0100000000\n"
   pub out-of-range : placelist (bytes "0203010000\n00010001\n") ≡ bytes "FF0100000000\n"
@@ -66,12 +68,14 @@ pub program-examples : ProgramExamples
 unfolding opened
 program-examples =
     record {
+      given = refl;
       completed = refl;
       stopped-early = refl;
       oversize = refl;
       largest = refl;
       no-input = refl;
       lower-case = refl;
+      non-digit = refl;
       no-line-feed = refl;
       too-long-a-frame = refl;
       out-of-range = refl;
