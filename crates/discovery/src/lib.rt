@@ -11,6 +11,7 @@ pub struct Run {
     pub visits: u32,
 }
 
+// What the search answers: what a run did, or the refusal.
 pub enum Discovered {
     Ran(Run),
     Refused(Refusal),

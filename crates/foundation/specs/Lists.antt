@@ -40,6 +40,7 @@ module _ {A : Type 0} where
   sublists [] = [] ∷ []
   sublists (x ∷ xs) = map (λ (s : List A). x ∷ s) (sublists xs) ++ sublists xs
 
+-- all numbers added up
 abbrev pub sum : List ℕ → ℕ
 sum [] = 0
 sum (n ∷ ns) = n + sum ns

@@ -7,7 +7,7 @@ pub enum Replayed {
     Refused(Refusal),
 }
 
-// The four case counts of a place over a log: underfed only, overfed only, and both.
+// The four case counts of a place over a log: fitting, underfed only, overfed only, and both.
 pub struct CaseCounts {
     pub fitting: u64,
     pub underfed: u64,
