@@ -1,4 +1,4 @@
--- The definition of the search, tried on two small logs. The figures were found by another program, written from document 01 alone.
+-- The definition of the search, tried on two small logs. The figures of whole runs were found by a second program (docs/DECISIONS.md, 5).
 -- Assumes nothing.
 use Prim.Native.Nat.{ℕ}
 use mathlib.Core.Path.{_≡_, refl}
