@@ -9,7 +9,7 @@ use lib.Dec.{eqb, leb}
 use lib.ListN.{length}
 use Rattle.foundation.specs.Lists.{Each, any, pairwise, sublists}
 use Rattle.places.specs.declared.Place.{Place}
-use Rattle.places.specs.Places.{place, word, placeOf, nonOverlapping, join}
+use Rattle.places.specs.Places.{place, placeOf, nonOverlapping, join}
 
 -- the union of places: the inputs of all and the outputs of all
 unfoldable pub joinAll : List Place → Place
@@ -20,7 +20,7 @@ joinAll (p ∷ ps) = join p (joinAll ps)
 pub record UnionOf (words : List ℕ) (p : Place) : Type 0 where
   pub parts : List Place
   pub several : 2 ≤ length parts
-  pub listed : Each (λ (q : Place). List·Memᴰ (word q) words) parts
+  pub listed : Each (λ (q : Place). List·Memᴰ q (map placeOf words)) parts
   pub apart : pairwise nonOverlapping parts ≡ true
   pub joined : joinAll parts ≡ p
 
