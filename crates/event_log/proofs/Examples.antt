@@ -25,7 +25,7 @@ pub record DigitExamples : Type 0 where
   pub read : readHex (bytes "01FA") ≡ 506
   pub written : writeHex 4 506 ≡ bytes "01FA"
 
-abbrev frame : ℕ → List ℕ → Frame
+abbrev pub frame : ℕ → List ℕ → Frame
 frame cases trace = record { cases = cases; trace = trace }
 
 -- the log of the source's Figure 1, with the codes 2 to 5 for its activities a to d
