@@ -4,6 +4,7 @@ use Prim.Native.Nat.{ℕ}
 use mathlib.Core.Path.{_≡_, refl}
 use mathlib.Core.Bool.{true, false}
 use mathlib.Core.List.{List, [], _∷_, map}
+use lib.ListN.{replicate}
 use Rattle.foundation.specs.Text.{bytes}
 use Rattle.limits.specs.declared.Refusal.the-variants.{InvalidSetting, MisplacedEndpoint}
 use Rattle.limits.specs.declared.Settings.{Settings}
@@ -56,7 +57,7 @@ pub record RunExamples : Type 0 where
   pub completed : either (holding 56 56 56) ≡ ran 0 2 21 23 29
   -- the second place found, from 2 and 3 to the end, would be lost by pruning after the underfed verdict on 2 alone
   pub found :
-      foundAfter (settings 4 3 1) eitherLog (holding 56 3 56) (7 ∷ 8 ∷ 9 ∷ [])
+      foundAfter (settings 4 3 1) eitherLog (replicate 56 5) (7 ∷ 8 ∷ 9 ∷ []) 56
       ≡ word (place 0x0001 0x0002) ∷ word (place 0x000C 0x0002) ∷ 9 ∷ []
   -- a full cache drops words, and what it dropped prunes nothing
   pub small-cache : either (holding 2 56 56) ≡ ran 0 2 2 53 54
@@ -64,13 +65,15 @@ pub record RunExamples : Type 0 where
   pub budget-spent : either (holding 2 56 20) ≡ ran 1 1 2 20 21
   pub no-budget : either (holding 2 56 0) ≡ ran 1 0 0 0 0
   pub list-full : either (holding 2 1 56) ≡ ran 2 1 2 24 25
+  -- two replays fill two words of a cache of three
   pub cached :
-      rejectedAfter (settings 4 3 1) eitherLog (holding 2 56 56) (7 ∷ 8 ∷ 9 ∷ [])
+      rejectedAfter (settings 4 3 1) eitherLog (7 ∷ 8 ∷ 9 ∷ []) [] 2
       ≡ rejectedWord (place 0x0001 0x0001) Underfed ∷ rejectedWord (place 0x0003 0x0001) Both ∷ 9 ∷ []
   pub figure-1 : figure1 (holding 126 126 126) ≡ ran 0 6 75 81 97
   pub setting-refused : discovered (settings 4 5 1) [] (holding 0 0 0) ≡ Refused InvalidSetting
   pub log-refused : discovered (settings 4 3 1) (bytes "00010100\n") (holding 0 0 0) ≡ Refused (MisplacedEndpoint 0)
-  pub refused-as-found : foundAfter (settings 4 5 1) [] (holding 0 2 0) (7 ∷ 8 ∷ []) ≡ 7 ∷ 8 ∷ []
+  pub list-as-found : foundAfter (settings 4 5 1) eitherLog (5 ∷ []) (7 ∷ 8 ∷ []) 56 ≡ 7 ∷ 8 ∷ []
+  pub cache-as-found : rejectedAfter (settings 4 3 1) (bytes "00010100\n") (7 ∷ 8 ∷ []) (5 ∷ []) 56 ≡ 7 ∷ 8 ∷ []
 
 pub ruling-examples : RulingExamples
 unfolding opened
@@ -102,5 +105,6 @@ run-examples =
       figure-1 = refl;
       setting-refused = refl;
       log-refused = refl;
-      refused-as-found = refl;
+      list-as-found = refl;
+      cache-as-found = refl;
     }

@@ -16,7 +16,7 @@ use Rattle.replay.specs.Judgement.{verdict}
 use Rattle.discovery.specs.declared.Discovered.{Discovered}
 use Rattle.discovery.specs.declared.Discovered.the-variants.{Ran, Refused}
 use Rattle.discovery.specs.declared.Run.{Run}
-use Rattle.discovery.specs.Search.{Capacity, Progress, search, endOf, stateOf}
+use Rattle.discovery.specs.Search.{Capacity, holding, Progress, search, endOf, stateOf}
 
 -- a run on a log under settings
 unfoldable pub run : Settings → List ℕ → Capacity → Progress
@@ -41,11 +41,22 @@ runRefusal s text = logRefusal (settingsFault s) none (s .activities) text
 unfoldable pub discovered : Settings → List ℕ → Capacity → Discovered
 discovered s text room = answer Refused (runRefusal s text) (Ran (summary (run s text room)))
 
--- what each buffer holds on return: the run's words, then its old tail; after a refusal, what it held before
-unfoldable pub foundAfter : Settings → List ℕ → Capacity → List ℕ → List ℕ
-foundAfter s text room before =
-    answer (λ (r : Refusal). before) (runRefusal s text) (overwrite (stateOf (run s text room) .found) before)
+-- the capacity that the two buffers and the budget give a run: as much room as the buffers are long, whatever they hold
+unfoldable pub capacityOf : List ℕ → List ℕ → ℕ → Capacity
+capacityOf rejected found budget = holding (length rejected) (length found) budget
 
-unfoldable pub rejectedAfter : Settings → List ℕ → Capacity → List ℕ → List ℕ
-rejectedAfter s text room before =
-    answer (λ (r : Refusal). before) (runRefusal s text) (overwrite (stateOf (run s text room) .rejected) before)
+-- what the list holds on return, for a cache and a list that held these words: the words found, then its old tail; after a refusal, what it held
+unfoldable pub foundAfter : Settings → List ℕ → List ℕ → List ℕ → ℕ → List ℕ
+foundAfter s text rejected found budget =
+    answer
+    (λ (r : Refusal). found)
+    (runRefusal s text)
+    (overwrite (stateOf (run s text (capacityOf rejected found budget)) .found) found)
+
+-- the same of the cache and the words rejected
+unfoldable pub rejectedAfter : Settings → List ℕ → List ℕ → List ℕ → ℕ → List ℕ
+rejectedAfter s text rejected found budget =
+    answer
+    (λ (r : Refusal). rejected)
+    (runRefusal s text)
+    (overwrite (stateOf (run s text (capacityOf rejected found budget)) .rejected) rejected)

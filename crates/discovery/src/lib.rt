@@ -1,8 +1,8 @@
 // The search over candidates for the places that a log fits: document 01, "The walk".
 use limits::Refusal;
 
-// What a run answers: how it ended (0 completed, 1 replay budget spent, 2 list of found places full), the words that it found and
-// rejected, and the candidates that it replayed and visited.
+// What a run answers: how it ended (0 completed, 1 replay budget spent, 2 list of found places full), how many words it found and
+// rejected, and how many candidates it replayed and visited.
 pub struct Run {
     pub end: u8,
     pub found: usize,
