@@ -13,11 +13,12 @@ unfoldable pub digitOf : ℕ → Digit
 digitOf byte =
     cond (leb 48 byte && leb byte 57) (Value (byte - 48)) (cond (leb 65 byte && leb byte 70) (Value (byte - 55)) NonDigit)
 
--- the byte is a digit
+-- a byte's class is that of a digit
 abbrev pub isValue : Digit → Bool
 isValue (Value v) = true
 isValue NonDigit = false
 
+-- the byte is a digit
 unfoldable pub isDigit : ℕ → Bool
 isDigit byte = isValue (digitOf byte)
 

@@ -1,4 +1,5 @@
--- Places, their 32-bit words, and how two places relate. Document 01, "Tokens in one trace" and "Candidates and their order"; the source's Definitions 3, 8 and 10.
+-- Places, their 32-bit words, and how two places relate. Document 01, "Tokens in one trace" and "Candidates and their order"; the source's
+-- Definitions 3, 8 and 10.
 -- Assumes nothing.
 use Prim.Native.Nat.{ℕ, suc, _+_, _*_, _/_, _%_, _^_}
 use mathlib.Core.Bool.{Bool, not, _&&_}
@@ -45,7 +46,8 @@ unfoldable pub wordsFault : ℕ → List ℕ → Option Refusal
 wordsFault index [] = none
 wordsFault index (w ∷ ws) = firstOf (placeFault mostActivities index (placeOf w) ∷ wordsFault (suc index) ws ∷ [])
 
--- the refusal of a call that takes no settings and is lent a list of words and a buffer to be written: 7, then 8, cramped, where the buffer is too short
+-- the refusal of a call that takes no settings and is lent a list of words and a buffer to be written: 7, then 8, cramped, where the buffer is
+-- too short
 unfoldable pub wordsRefusal : List ℕ → Bool → Option Refusal
 wordsRefusal words short =
     firstRefusal
