@@ -1,3 +1,4 @@
 pub mod Opened
+pub mod Lines
 pub mod Examples
 pub mod NotWritten

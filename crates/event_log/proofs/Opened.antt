@@ -3,10 +3,10 @@
 use mathlib.Core.List.{flatMap}
 use Rattle.event_log.specs.Digits.{digitOf, isDigit, readHex, digitByte, writeHex}
 use Rattle.event_log.specs.Frames.{writeFrame, totalCases}
-use Rattle.event_log.specs.Lines.{lines, readPairs, frameOf, framesOf}
+use Rattle.event_log.specs.Lines.{lines, firstLine, readPairs, frameOf, framesOf}
 use Rattle.event_log.specs.Checking.{malformed, namesUnknown, endpointMisplaced, lineFault, linesFault, emptyFault, textFault, logRefusal, checked}
 use Rattle.limits.proofs.Opened.{opened as opened-limits}
 
 unfoldable pub opened : Unit {0}
-unfolding flatMap digitOf isDigit readHex digitByte writeHex writeFrame totalCases lines readPairs frameOf framesOf malformed namesUnknown endpointMisplaced lineFault linesFault emptyFault textFault logRefusal checked opened-limits
+unfolding flatMap digitOf isDigit readHex digitByte writeHex writeFrame totalCases lines firstLine readPairs frameOf framesOf malformed namesUnknown endpointMisplaced lineFault linesFault emptyFault textFault logRefusal checked opened-limits
 opened = tt

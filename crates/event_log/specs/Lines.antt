@@ -4,7 +4,7 @@ use Prim.Native.Nat.{ℕ}
 use mathlib.Core.Bool.{Bool, true, false, cond}
 use mathlib.Core.List.{List, [], _∷_, map}
 use lib.Dec.{eqb}
-use lib.ListN.{take, drop}
+use lib.ListN.{take, drop, getD}
 use Rattle.event_log.specs.Digits.{readHex, lineFeed}
 use Rattle.event_log.specs.Frames.{Frame, countDigits}
 
@@ -22,6 +22,10 @@ putFirst byte (l ∷ ls) = record { bytes = byte ∷ l .bytes; ended = l .ended 
 unfoldable pub lines : List ℕ → List Line
 lines [] = []
 lines (byte ∷ text) = cond (eqb byte lineFeed) (record { bytes = []; ended = true } ∷ lines text) (putFirst byte (lines text))
+
+-- the first line of a text; of a text with no byte, one with no byte
+unfoldable pub firstLine : List ℕ → Line
+firstLine text = getD (lines text) 0 (record { bytes = []; ended = false })
 
 -- the numbers that each two digits write
 unfoldable pub readPairs : List ℕ → List ℕ
