@@ -1,4 +1,5 @@
 pub mod Opened
 pub mod Lines
+pub mod DigitValues
 pub mod Examples
 pub mod NotWritten

@@ -7,6 +7,8 @@ use lib.Dec.{leb, ltb}
 use lib.ListN.{length}
 use Rattle.event_log.specs.declared.Digit.{Digit}
 use Rattle.event_log.specs.declared.Digit.the-variants.{Value, NonDigit}
+use Rattle.event_log.specs.declared.Pair.{Pair}
+use Rattle.event_log.specs.declared.Pair.the-variants.{Number, NonDigits}
 
 -- the bytes 0 to 9 (48 to 57) have the values 0 to 9, and A to F (65 to 70) the values 10 to 15
 unfoldable pub digitOf : ℕ → Digit
@@ -27,10 +29,18 @@ abbrev pub valueIn : Digit → ℕ
 valueIn (Value v) = v
 valueIn NonDigit = 0
 
+-- the value of a byte as a digit
+abbrev pub digitValue : ℕ → ℕ
+digitValue byte = valueIn (digitOf byte)
+
 -- the number that digits write, the highest first
 unfoldable pub readHex : List ℕ → ℕ
 readHex [] = 0
-readHex (byte ∷ bytes) = valueIn (digitOf byte) * 16 ^ length bytes + readHex bytes
+readHex (byte ∷ bytes) = digitValue byte * 16 ^ length bytes + readHex bytes
+
+-- the number that two digits write; none where either byte is no digit
+unfoldable pub pairOf : ℕ → ℕ → Pair
+pairOf high low = cond (isDigit high && isDigit low) (Number (readHex (high ∷ low ∷ []))) NonDigits
 
 -- the byte that writes a value below 16
 unfoldable pub digitByte : ℕ → ℕ

@@ -1,4 +1,6 @@
 // The settings of a call and the refusals that every call can answer with: document 01, "Settings and the log".
+ghost use mathlib.Core.Path.{_≡_};
+ghost use Rattle.limits.specs.Settings.{boundInRange, thresholdInRange};
 
 // A, mi, mo and T of document 01. Their ranges are in specs/Settings.antt.
 pub struct Settings {
@@ -22,4 +24,21 @@ pub enum Refusal {
     EmptyLog,
     InvalidPlace { index: usize },
     BufferTooSmall,
+}
+
+// The most activities that a 16-bit set can name.
+pub const MOST_ACTIVITIES: u8 = 16;
+
+// Whether an activity bound is in its range.
+pub fn bound_in_range(activities: u8) -> bool
+    ensures { λ r. ⌜ r ≡ boundInRange activities ⌝ }
+{
+    2 <= activities && activities <= MOST_ACTIVITIES
+}
+
+// Whether a threshold is in its range.
+pub fn threshold_in_range(threshold: u16) -> bool
+    ensures { λ r. ⌜ r ≡ thresholdInRange threshold ⌝ }
+{
+    threshold <= 1000
 }

@@ -1,3 +1,4 @@
 pub mod Opened
+pub mod Bounds
 pub mod Examples
 pub mod Irreflexive

@@ -1,7 +1,29 @@
 // Sets of activities and places: document 01, "Candidates and their order" and the first sentences of "Tokens in one trace".
+ghost use mathlib.Core.Path.{_≡_};
+ghost use Rattle.places.specs.Places.{below, placeUnder};
 
 // A place (I, O): its input and its output activities, as sets in which code a stands for 2 to the power a.
 pub struct Place {
     pub inputs: u16,
     pub outputs: u16,
+}
+
+// Whether a set names no code of the activity bound or more.
+pub fn below_bound(activities: u8, set: u16) -> bool
+    ensures { λ r. ⌜ r ≡ below activities set ⌝ }
+{
+    activities >= 16 || (set >> activities) == 0
+}
+
+// Whether a place is a through place under an activity bound.
+pub fn place_under(activities: u8, place: Place) -> bool
+    ensures { λ r. ⌜ r ≡ placeUnder activities place ⌝ }
+{
+    if place.inputs == 0 {
+        return false;
+    }
+    if place.outputs == 0 {
+        return false;
+    }
+    below_bound(activities, place.inputs) && below_bound(activities, place.outputs)
 }

@@ -1,0 +1,82 @@
+-- `event_log::hex::pair` meets its contract: by what each of the two bytes is. A digit's value is below 16, so the number fits a byte.
+-- Assumes nothing.
+use borrow.Author.Needs.{needs}
+use mathlib.Core.Path.{sym, _∙_}
+use native.Mathlib.Omega.{arith}
+use Rattle.event_log.proofs.DigitValues.{digit-below, pair-values, pair-high, pair-low}
+use Rattle.event_log.proofs.hex.pair.Statement.{statement}
+use Rattle.event_log.proofs.hex.pair.Tie as tie
+
+classify-requires : tie.Need-classify-requires
+classify-requires c κs = search needs
+
+enum-told : tie.Need-enum-told
+enum-told c = search needs
+
+enum-known-h : tie.Need-enum-known-h
+enum-known-h c = search needs
+
+classify-requires-2 : tie.Need-classify-requires-2
+classify-requires-2 c κs = search needs
+
+enum-told-2 : tie.Need-enum-told-2
+enum-told-2 c = search needs
+
+enum-known-l : tie.Need-enum-known-l
+enum-known-l c = search needs
+
+mul-t9 : tie.Need-mul-t9
+mul-t9 c =
+    let d = c .before .before .before .before .before in
+    omega (arith, digit-below _ _ (sym (d .before .before .classify .ensures) ∙ d .h .given .1))
+
+add-t10 : tie.Need-add-t10
+add-t10 c =
+    let d = c .before .before .before .before .before in
+    omega (
+      arith,
+      digit-below _ _ (sym (d .before .before .classify .ensures) ∙ d .h .given .1),
+      digit-below _ _ (sym (c .before .before .before .classify2 .ensures) ∙ c .before .l .given .1),
+    )
+
+returns : tie.Need-returns
+returns c = sym (pair-high _ _ (sym (c .before .before .classify .ensures) ∙ c .enum-told .given .1))
+
+returns-2 : tie.Need-returns-2
+returns-2 c =
+    let d = c .before .before .before .before in
+    sym
+    (pair-low
+    _
+    _
+    _
+    (sym (d .before .before .classify .ensures) ∙ d .h .given .1)
+    (sym (c .before .before .classify2 .ensures) ∙ c .enum-told2 .given .1))
+
+returns-3 : tie.Need-returns-3
+returns-3 c =
+    let d = c .before .before .before .before .before in
+    sym
+    (pair-values
+    _
+    _
+    _
+    _
+    (sym (d .before .before .classify .ensures) ∙ d .h .given .1)
+    (sym (c .before .before .before .classify2 .ensures) ∙ c .before .l .given .1))
+
+pub pair-spec : {M : Type 1} → statement M
+pair-spec =
+    tie.close
+    (tie.spec
+    classify-requires
+    enum-told
+    enum-known-h
+    classify-requires-2
+    enum-told-2
+    enum-known-l
+    mul-t9
+    add-t10
+    returns
+    returns-2
+    returns-3)

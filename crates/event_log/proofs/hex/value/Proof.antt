@@ -1,0 +1,25 @@
+-- `event_log::hex::value` meets its contract: it is the value in the byte's class.
+-- Assumes nothing.
+use borrow.Author.Needs.{needs}
+use mathlib.Core.Path.{ap, sym, _∙_}
+use Rattle.event_log.specs.Digits.{valueIn}
+use Rattle.event_log.proofs.hex.value.Statement.{statement}
+use Rattle.event_log.proofs.hex.value.Tie as tie
+
+classify-requires : tie.Need-classify-requires
+classify-requires c κs = search needs
+
+enum-known-v : tie.Need-enum-known-v
+enum-known-v c = search needs
+
+enum-told : tie.Need-enum-told
+enum-told c = search needs
+
+returns : tie.Need-returns
+returns c = ap valueIn (sym (c .before .v .given .1) ∙ c .before .before .before .classify .ensures)
+
+returns-2 : tie.Need-returns-2
+returns-2 c = ap valueIn (sym (c .enum-told .given .1) ∙ c .before .before .classify .ensures)
+
+pub value-spec : {M : Type 1} → statement M
+value-spec = tie.close (tie.spec classify-requires enum-known-v enum-told returns returns-2)
