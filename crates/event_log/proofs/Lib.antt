@@ -1,5 +1,15 @@
 pub mod Opened
 pub mod Lines
+pub mod DigitLaws
+pub mod PairLaws
+pub mod TraceLaws
+pub mod FirstOf
+pub mod LineFaults
+pub mod FrameLines
+pub mod TextLines
+pub mod LogChecks
+pub mod Written
+pub mod FirstFault
 pub mod DigitValues
 pub mod Examples
 pub mod NotWritten

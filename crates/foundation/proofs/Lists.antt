@@ -1,8 +1,9 @@
 -- Laws of the words for lists.
 -- Assumes nothing.
-use mathlib.Core.Path.{_≡_}
+use mathlib.Core.Path.{_≡_, refl, ap}
 use mathlib.Core.Bool.{Bool, true, and-eq-true-iff}
-use mathlib.Core.List.{List, _∷_}
+use mathlib.Core.List.{List, [], _∷_, _++_}
+use lib.ListN.{length, take, getD}
 use Rattle.foundation.specs.Lists.{Each, each-cons, all, pairwise}
 
 module _ {A : Type 0} {P : A → Type 0} {x : A} {xs : List A} where
@@ -29,3 +30,8 @@ module _ {A : Type 0} (r : A → A → Bool) where
         and-eq-true-iff (r x y) (all (r x) xs) .0 (first-all x (y ∷ xs) e) .1,
         pairwise-tail y xs (pairwise-tail x (y ∷ xs) e),
       )
+
+-- a list with an element is what stands before its last element, and that element
+pub last-split : {A : Type 0} (x : A) (xs : List A) (d : A) → x ∷ xs ≡ take (length xs) (x ∷ xs) ++ (getD (x ∷ xs) (length xs) d ∷ [])
+last-split x [] d = refl
+last-split x (y ∷ xs) d = ap (_∷_ x) (last-split y xs d)
