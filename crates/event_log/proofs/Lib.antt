@@ -10,6 +10,11 @@ pub mod TextLines
 pub mod LogChecks
 pub mod Written
 pub mod FirstFault
-pub mod DigitValues
+pub mod PairNumbers
+pub mod Phases
+pub mod Scan
+pub mod Counts
+pub mod LineShape
+pub mod LogPass
 pub mod Examples
 pub mod NotWritten

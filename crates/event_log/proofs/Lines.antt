@@ -17,6 +17,10 @@ use Rattle.event_log.specs.Lines.{Line, putFirst, lines, firstLine}
 abbrev pub withByte : ℕ → Line → Line
 withByte byte l = record { bytes = byte ∷ l .bytes; ended = l .ended }
 
+pub first-none : firstLine [] ≡ record { bytes = []; ended = false }
+unfolding firstLine lines
+first-none = refl
+
 pub first-feed : (text : List ℕ) → firstLine (lineFeed ∷ text) ≡ record { bytes = []; ended = true }
 unfolding firstLine lines
 first-feed text = refl

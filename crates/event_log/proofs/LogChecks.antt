@@ -3,19 +3,24 @@
 -- Assumes nothing.
 use Prim.Native.Nat.{ℕ, _≤_}
 use native.Mathlib.Omega.{arith}
-use mathlib.Core.Path.{_≡_}
+use mathlib.Core.Path.{_≡_, refl}
 use mathlib.Core.Logic.{_↔_}
-use mathlib.Core.Bool.{true, not}
+use mathlib.Core.Bool.{true, false, not}
 use mathlib.Core.List.{List, [], _∷_}
-use mathlib.Core.Option.{Option, none}
+use mathlib.Core.Option.{Option, none, some}
 use borrow.Author.Tests.{eqb-false, ne-eqb, not-false}
 use lib.Dec.{eqb}
 use lib.ListN.{length}
+use Rattle.foundation.proofs.Booleans.{impossible}
 use Rattle.limits.specs.declared.Refusal.{Refusal}
 use Rattle.limits.specs.declared.Refusal.the-variants.{InvalidSetting, EmptyLog}
-use Rattle.limits.specs.Refusals.{firstRefusal}
+use Rattle.limits.specs.Refusals.{firstRefusal, answer}
 use Rattle.limits.specs.Settings.{boundInRange, boundFault}
-use Rattle.event_log.specs.Checking.{emptyFault, textFault, logRefusal}
+use Rattle.event_log.specs.declared.Checked.the-variants.{Accepted, Refused}
+use Rattle.event_log.specs.Frames.{totalCases}
+use Rattle.event_log.specs.Lines.{framesOf}
+use Rattle.event_log.specs.Checking.{emptyFault, textFault, logRefusal, checked}
+use Rattle.event_log.specs.Reading.{linesChecked}
 use Rattle.event_log.proofs.FirstOf.{given-none, only-one, first-none}
 
 pub bound-passes : (A : ℕ) → (boundFault A ≡ none) ↔ (boundInRange A ≡ true)
@@ -57,3 +62,35 @@ module _ (A : ℕ) (text : List ℕ) where
 
     pub log-passes : (logRefusal settings places A text ≡ none) ↔ LogPasses settings places A text
     log-passes = (passes, λ p. rw (p .settings-pass, p .places-pass, lines-decide (p .some-byte)) (p .lines-pass))
+
+-- what checking a log answers, by the checks before those of its lines
+module _ (A : ℕ) (text : List ℕ) where
+  pub bound-refused : boundInRange A ≡ false → checked A text ≡ Refused InvalidSetting
+  unfolding checked boundFault logRefusal firstRefusal
+  bound-refused e = rw e
+
+  module _ (in-range : boundInRange A ≡ true) where
+    pub empty-refused : length text ≡ 0 → checked A text ≡ Refused EmptyLog
+    unfolding checked boundFault logRefusal firstRefusal emptyFault
+    empty-refused e = rw (in-range, e)
+
+    pub lines-checked : 1 ≤ length text → checked A text ≡ linesChecked A text
+    unfolding checked linesChecked
+    lines-checked some-byte = rw (bound-passes A .1 in-range, lines-decide A text some-byte)
+
+    -- a call whose settings and place pass refuses what checking the log refuses
+    pub refused-log : (r : Refusal) → checked A text ≡ Refused r → logRefusal none none A text ≡ some r
+    unfolding checked
+    refused-log r e = go (logRefusal none none A text) (rw (bound-passes A .1 in-range) at e)
+      where
+        go : (o : Option Refusal) → answer Refused o (Accepted (length (framesOf text)) (totalCases (framesOf text))) ≡ Refused r → o ≡ some r
+        go none h = impossible (cc)
+        go (some s) h = cc
+
+    pub accepted-log : (n N : ℕ) → checked A text ≡ Accepted n N → logRefusal none none A text ≡ none
+    unfolding checked
+    accepted-log n N e = go (logRefusal none none A text) (rw (bound-passes A .1 in-range) at e)
+      where
+        go : (o : Option Refusal) → answer Refused o (Accepted (length (framesOf text)) (totalCases (framesOf text))) ≡ Accepted n N → o ≡ none
+        go none h = refl
+        go (some s) h = impossible (cc)

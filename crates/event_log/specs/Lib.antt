@@ -2,3 +2,4 @@ pub mod Digits
 pub mod Frames
 pub mod Lines
 pub mod Checking
+pub mod Reading

@@ -1,0 +1,114 @@
+-- `event_log::line::read_activities` meets its contract. The loop's invariant: the pass from where it stands answers what the pass from the
+-- first activity answers, which `Scan` shows to be what the definitions say. The measure is what is left of the text.
+-- Assumes nothing.
+use Prim.Native.Nat.{_-_}
+use mathlib.Core.Path.{_≡_, refl, sym, _∙_}
+use mathlib.Core.Bool.{false}
+use native.Mathlib.Omega.{arith}
+use borrow.Author.Needs.{needs}
+use lib.ListN.{length, drop}
+use Rattle.event_log.specs.declared.Phase.the-variants.{Before}
+use Rattle.event_log.proofs.Scan.{scan, scan-first, scan-end, scan-feed, scan-short, scan-others, scan-number}
+use Rattle.event_log.proofs.line.read_activities.Statement.{statement}
+use Rattle.event_log.proofs.line.read_activities.Tie as tie
+
+abbrev Inv-loop : tie.InvT-loop
+Inv-loop activities text from at₀ phase₀ unknown₀ at phase unknown =
+    scan activities at phase unknown (drop at text) ≡ scan activities from Before false (drop from text)
+
+abbrev μ-loop : tie.MeasureT-loop
+μ-loop activities text from at₀ phase₀ unknown₀ at phase unknown = length text - at
+
+loop-holds : tie.Need-loop-holds Inv-loop μ-loop
+loop-holds c = refl
+
+shared-slice-read-if1 : tie.Need-shared-slice-read-if1 Inv-loop μ-loop
+shared-slice-read-if1 c = omega arith
+
+is-misplaced-requires : tie.Need-is-misplaced-requires Inv-loop μ-loop
+is-misplaced-requires c κs = search needs
+
+returns : tie.Need-returns Inv-loop μ-loop
+returns c =
+    let t = c .before .before .before in
+    rw (c .is-misplaced .ensures)
+    (sym (scan-feed _ _ _ _ _ (t .loop-test .taken) (c .before .if1 .taken)) ∙ t .before .loop .inv ∙ scan-first _ _ _)
+
+sub-if2 : tie.Need-sub-if2 Inv-loop μ-loop
+sub-if2 c = omega arith
+
+returns-2 : tie.Need-returns-2 Inv-loop μ-loop
+returns-2 c =
+    let t = c .before .before .before in
+    sym (scan-short _ _ _ _ _ (t .loop-test .taken) (c .if2 .taken) (c .before .if1 .left)) ∙ t .before .loop .inv ∙ scan-first _ _ _
+
+shared-slice-read-pair : tie.Need-shared-slice-read-pair Inv-loop μ-loop
+shared-slice-read-pair c = omega arith
+
+add-pair : tie.Need-add-pair Inv-loop μ-loop
+add-pair c = omega arith
+
+shared-slice-read-pair-2 : tie.Need-shared-slice-read-pair-2 Inv-loop μ-loop
+shared-slice-read-pair-2 c = omega arith
+
+pair-requires : tie.Need-pair-requires Inv-loop μ-loop
+pair-requires c κs = search needs
+
+enum-known-digits : tie.Need-enum-known-digits Inv-loop μ-loop
+enum-known-digits c = search needs
+
+enum-told : tie.Need-enum-told Inv-loop μ-loop
+enum-told c = search needs
+
+returns-3 : tie.Need-returns-3 Inv-loop μ-loop
+returns-3 c =
+    let p = c .before .before in
+    let d = p .before .before .before .before in
+    sym (scan-others _ _ _ _ _ (omega arith) (d .if1 .left) (sym (p .pair .ensures) ∙ c .enum-told .given .1))
+    ∙ d .before .before .before .loop .inv
+    ∙ scan-first _ _ _
+
+advance-requires : tie.Need-advance-requires Inv-loop μ-loop
+advance-requires c κs = search needs
+
+add-at : tie.Need-add-at Inv-loop μ-loop
+add-at c = omega arith
+
+loop-less : tie.Need-loop-less Inv-loop μ-loop
+loop-less c = omega arith
+
+loop-again : tie.Need-loop-again Inv-loop μ-loop
+loop-again c =
+    let p = c .before .before .before .before in
+    let d = p .before .before .before .before in
+    rw (c .advance .ensures)
+    (sym (scan-number _ _ _ _ _ _ (omega arith) (d .if1 .left) (sym (p .pair .ensures) ∙ c .before .before .digits .given .1))
+    ∙ d .before .before .before .loop .inv)
+
+returns-4 : tie.Need-returns-4 Inv-loop μ-loop
+returns-4 c = sym (scan-end _ _ _ _ _ (c .loop-test .left)) ∙ c .before .loop .inv ∙ scan-first _ _ _
+
+pub read-activities-spec : {M : Type 1} → statement M
+read-activities-spec =
+    tie.close
+    (tie.spec
+    Inv-loop
+    μ-loop
+    loop-holds
+    shared-slice-read-if1
+    is-misplaced-requires
+    returns
+    sub-if2
+    returns-2
+    shared-slice-read-pair
+    add-pair
+    shared-slice-read-pair-2
+    pair-requires
+    enum-known-digits
+    enum-told
+    returns-3
+    advance-requires
+    add-at
+    loop-less
+    loop-again
+    returns-4)
