@@ -1,5 +1,6 @@
 // The settings of a call and the refusals that every call can answer with: document 01, "Settings and the log".
 ghost use mathlib.Core.Path.{_≡_};
+ghost use Rattle.limits.specs.Refusals.{number, value};
 ghost use Rattle.limits.specs.Settings.{boundInRange, thresholdInRange};
 
 // A, mi, mo and T of document 01. Their ranges are in specs/Settings.antt.
@@ -41,4 +42,36 @@ pub fn threshold_in_range(threshold: u16) -> bool
     ensures { λ r. ⌜ r ≡ thresholdInRange threshold ⌝ }
 {
     threshold <= 1000
+}
+
+// The number of a refusal.
+pub fn number_of(refusal: Refusal) -> u8
+    ensures { λ r. ⌜ r ≡ number refusal ⌝ }
+{
+    match refusal {
+        Refusal::InvalidSetting => 1,
+        Refusal::MalformedFrame { line: _ } => 2,
+        Refusal::UnknownActivity { line: _ } => 3,
+        Refusal::MisplacedEndpoint { line: _ } => 4,
+        Refusal::TooLarge { line: _ } => 5,
+        Refusal::EmptyLog => 6,
+        Refusal::InvalidPlace { index: _ } => 7,
+        Refusal::BufferTooSmall => 8,
+    }
+}
+
+// What is returned beside the number.
+pub fn value_of(refusal: Refusal) -> usize
+    ensures { λ r. ⌜ r ≡ value refusal ⌝ }
+{
+    match refusal {
+        Refusal::InvalidSetting => 0,
+        Refusal::MalformedFrame { line } => line,
+        Refusal::UnknownActivity { line } => line,
+        Refusal::MisplacedEndpoint { line } => line,
+        Refusal::TooLarge { line } => line,
+        Refusal::EmptyLog => 0,
+        Refusal::InvalidPlace { index } => index,
+        Refusal::BufferTooSmall => 0,
+    }
 }
