@@ -15,7 +15,9 @@ returns : tie.Need-returns
 returns c = sym (bound-refused _ _ (sym (c .before .bound-in-range .ensures) ∙ not-true _ (c .if1 .taken)))
 
 returns-2 : tie.Need-returns-2
-returns-2 c = sym (empty-refused _ _ (sym (c .before .before .bound-in-range .ensures) ∙ not-false _ (c .before .if1 .left)) (c .if2 .taken))
+returns-2 c =
+    let a = c .before .before .before .before .args in
+    sym (empty-refused (a .activities) (a .text .now) (sym (c .before .before .bound-in-range .ensures) ∙ not-false _ (c .before .if1 .left)) (omega arith))
 
 check-lines-requires : tie.Need-check-lines-requires
 check-lines-requires c κs = search needs

@@ -47,7 +47,7 @@ shape c =
 
 -- its index is small enough
 few : (c : tie.After-known-told2) → c .before .before .before .before .before .before .before .before .before .before .args .line < mostFrames
-few c = c .before .before .before .before .before .before .before .before .if1 .left
+few c = omega (arith, c .before .before .before .before .before .before .before .before .if1 .left)
 
 -- and so it can be read, where it is neither too short nor too long
 readable : (c : tie.Else3)
@@ -55,7 +55,7 @@ readable : (c : tie.Else3)
     Readable (a .line) (firstLine (drop (a .from) (a .text .now)))
 readable c =
     let d = c .before .before in
-    record { few = few d; formed = shape-formed (shape d) (c .before .if2 .left); short = shape-fits (shape d) (c .if3 .left) }
+    record { few = few d; formed = shape-formed (shape d) (omega arith); short = shape-fits (shape d) (omega arith) }
 
 returns : tie.Need-returns
 returns c = faulty _ _ _ _ (index-large (c .if1 .taken))
@@ -100,7 +100,7 @@ sub-if2 : tie.Need-sub-if2
 sub-if2 c = omega (arith, shape c .ends)
 
 returns-4 : tie.Need-returns-4
-returns-4 c = let d = c .before in faulty _ _ _ _ (line-malformed (few d) (shape-short (shape d) (c .if2 .taken)))
+returns-4 c = let d = c .before in faulty _ _ _ _ (line-malformed (few d) (shape-short (shape d) (omega arith)))
 
 sub-if3 : tie.Need-sub-if3
 sub-if3 c = search needs
@@ -108,7 +108,7 @@ sub-if3 c = search needs
 returns-5 : tie.Need-returns-5
 returns-5 c =
     let d = c .before .before in
-    faulty _ _ _ _ (trace-long (few d) (shape-formed (shape d) (c .before .if2 .left)) (shape-long (shape d) (c .if3 .taken)))
+    faulty _ _ _ _ (trace-long (few d) (shape-formed (shape d) (omega arith)) (shape-long (shape d) (omega arith)))
 
 returns-6 : tie.Need-returns-6
 returns-6 c =
