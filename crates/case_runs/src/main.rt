@@ -1,0 +1,16 @@
+// Runs the cases of document 01 that checking, replaying and judging can run, and every refusal of these calls at its boundary, and compares each
+// answer with the expected one. It writes a line for each case.
+mod answers; // answers.rt: an answer compared with the expected one
+mod checks; // checks.rt: checking a log
+mod texts; // texts.rt: long logs
+
+fn main() {
+    checks::table();
+    checks::settings();
+    checks::frames();
+    checks::codes();
+    checks::endpoints();
+    checks::order();
+    checks::longest_trace();
+    checks::most_frames();
+}
