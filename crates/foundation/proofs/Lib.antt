@@ -3,4 +3,5 @@ pub mod Lists
 pub mod Each
 pub mod Sums
 pub mod Integers
+pub mod Differences
 pub mod Examples

@@ -1,3 +1,4 @@
 pub mod Balance
+pub mod Replaying
 pub mod Judgement
 pub mod Answers

@@ -1,0 +1,51 @@
+-- `replay::trace::replay_event` meets its contract: its numbers fit 16 bits, so the bits read back are the definition's integers.
+-- Assumes nothing.
+use borrow.Author.Needs.{needs}
+use Rattle.replay.proofs.EventBits.{taken-fits, given-fits, least-stays, least-falls}
+use Rattle.replay.proofs.trace.replay_event.Statement.{statement}
+use Rattle.replay.proofs.trace.replay_event.Tie as tie
+
+shr-taken : tie.Need-shr-taken
+shr-taken c = search needs
+
+cast-taken : tie.Need-cast-taken
+cast-taken c = search needs
+
+sub-taken : tie.Need-sub-taken
+sub-taken c =
+    let d = c .before .before .before in
+    taken-fits (d .args .place) (d .args .tokens) (d .args .code) (d .pre .1)
+
+shr-balance : tie.Need-shr-balance
+shr-balance c = search needs
+
+cast-balance : tie.Need-cast-balance
+cast-balance c = search needs
+
+add-balance : tie.Need-add-balance
+add-balance c =
+    let d = c .before .before .before .before in
+    given-fits (d .args .place) (d .args .tokens) (d .args .code) (d .pre .1)
+
+returns : tie.Need-returns
+returns c =
+    let d = c .before .before .before .before .before .before .before .before in
+    least-stays (d .args .place) (d .args .tokens) (d .args .code) (d .pre .1) (search needs) (c .before .if1 .taken)
+
+returns-2 : tie.Need-returns-2
+returns-2 c =
+    let d = c .before .before .before .before .before .before .before in
+    least-falls (d .args .place) (d .args .tokens) (d .args .code) (d .pre .1) (search needs) (c .if1 .left)
+
+pub replay-event-spec : {M : Type 1} → statement M
+replay-event-spec =
+    tie.close
+    (tie.spec
+    shr-taken
+    cast-taken
+    sub-taken
+    shr-balance
+    cast-balance
+    add-balance
+    returns
+    returns-2)

@@ -1,0 +1,48 @@
+// Replaying one trace: document 01, "Tokens in one trace", first paragraph.
+ghost use mathlib.Core.Path.{_≡_};
+ghost use Prim.Native.Nat.{_*_, _≤_, _<_};
+ghost use lib.Signed.{mag};
+ghost use lib.ListN.{length};
+ghost use Rattle.event_log.specs.Frames.{mostEvents};
+ghost use Rattle.replay.specs.Replaying.{afterEvent, afterTrace, codesIn};
+use crate::Tokens;
+use event_log::hex::value;
+use places::Place;
+
+// The tokens after one more event: it takes before it gives, so that an activity in both sets does not feed itself.
+fn replay_event(tokens: Tokens, place: Place, code: u8) -> Tokens
+    requires { ⌜ (code < 16) × (mag (tokens .balance) ≤ 2 * mostEvents) ⌝ }
+    ensures { λ r. ⌜ r ≡ afterEvent place tokens code ⌝ }
+{
+    let taken = tokens.balance - ((place.outputs >> code) % 2) as i16;
+    let balance = taken + ((place.inputs >> code) % 2) as i16;
+    if tokens.least <= taken {
+        Tokens {
+            balance,
+            least: tokens.least,
+        }
+    } else {
+        Tokens {
+            balance,
+            least: taken,
+        }
+    }
+}
+
+// The tokens after a trace, from its digits, two for each activity. Codes are below 16, so the second digit is the code. All events are
+// replayed, also after a token was missing.
+pub fn replay_trace(digits: &[u8], place: Place) -> Tokens
+    requires { ⌜ length (now digits) ≤ 2 * mostEvents ⌝ }
+    ensures { λ r. ⌜ r ≡ afterTrace place (codesIn (now (digits .entry))) ⌝ }
+{
+    let mut tokens = Tokens {
+        balance: 0,
+        least: 0,
+    };
+    let mut at = 1;
+    while at < digits.len() {
+        tokens = replay_event(tokens, place, value(digits[at]));
+        at += 2;
+    }
+    tokens
+}
