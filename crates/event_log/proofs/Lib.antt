@@ -16,5 +16,6 @@ pub mod Scan
 pub mod Counts
 pub mod LineShape
 pub mod LogPass
+pub mod FrameSteps
 pub mod Examples
 pub mod NotWritten

@@ -1,5 +1,6 @@
 pub mod Digits
 pub mod Frames
 pub mod Lines
+pub mod Stepping
 pub mod Checking
 pub mod Reading

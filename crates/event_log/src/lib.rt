@@ -6,6 +6,7 @@ use crate::line::check_line;
 use limits::Refusal;
 use limits::bound_in_range;
 
+pub mod frame; // frame.rt: stepping through the frames of a checked log
 pub mod hex; // hex.rt: hexadecimal digits
 pub mod line; // line.rt: one line
 

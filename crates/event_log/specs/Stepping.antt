@@ -1,0 +1,24 @@
+-- Stepping through a log that was checked, frame by frame: the case count at an index, and where the activity digits from an index end.
+-- Document 01, "Settings and the log". The definitions take any text; of a log's frames they give the frames' own counts and ends.
+-- Assumes nothing.
+use Prim.Native.Nat.{ℕ, _+_}
+use mathlib.Core.Bool.{cond}
+use mathlib.Core.List.{List, [], _∷_}
+use lib.Dec.{eqb, leb}
+use lib.ListN.{length, take, drop}
+use Rattle.event_log.specs.Digits.{readHex, lineFeed}
+use Rattle.event_log.specs.Frames.{countDigits}
+
+-- the case count that begins at the index: what its four digits write, 0 where fewer bytes are left
+unfoldable pub casesAt : List ℕ → ℕ → ℕ
+casesAt text from = cond (leb (from + countDigits) (length text)) (readHex (take countDigits (drop from text))) 0
+
+-- the bytes that stand in pairs before the first pair that begins with a line feed; a last byte alone counts as a pair
+unfoldable pub pairsLength : List ℕ → ℕ
+pairsLength [] = 0
+pairsLength (d ∷ []) = cond (eqb d lineFeed) 0 2
+pairsLength (d ∷ (e ∷ bytes)) = cond (eqb d lineFeed) 0 (2 + pairsLength bytes)
+
+-- the index of the line feed after the activity digits, two for each activity, that begin at the index
+unfoldable pub traceEnd : List ℕ → ℕ → ℕ
+traceEnd text from = from + pairsLength (drop from text)
