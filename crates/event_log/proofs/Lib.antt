@@ -17,5 +17,7 @@ pub mod Counts
 pub mod LineShape
 pub mod LogPass
 pub mod FrameSteps
+pub mod FrameAt
+pub mod WiderBound
 pub mod Examples
 pub mod NotWritten

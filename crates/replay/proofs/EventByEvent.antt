@@ -20,7 +20,11 @@ use Rattle.places.specs.declared.Place.{Place}
 use Rattle.places.specs.Sets.{has}
 use Rattle.replay.specs.declared.Tokens.{Tokens}
 use Rattle.replay.specs.Balance.{count, balanceAt, smaller, leastOf, leastBalance, lastBalance}
-use Rattle.replay.specs.Replaying.{noTokens, afterEvent, afterTrace}
+use Rattle.replay.specs.Replaying.{afterEvent, afterTrace}
+
+-- before the first event
+abbrev pub noTokens : Tokens
+noTokens = record { balance = pos 0; least = pos 0 }
 
 -- the second of two numbers, where it is at most the first
 smaller-second : (a b : ℤ) → leZ b a ≡ true → smaller a b ≡ b

@@ -5,4 +5,6 @@ pub mod Monotone
 pub mod EventBits
 pub mod EventByEvent
 pub mod CodeDigits
+pub mod FrameByFrame
+pub mod FramesLeft
 pub mod Examples

@@ -1,18 +1,17 @@
--- Replaying a trace event by event: the tokens after each event, and the codes that a trace's digits stand for. Document 01, "Tokens in one
--- trace" and "Settings and the log". That the tokens are those of the definitions of Balance is proved, not said here.
+-- The steps of replaying and judging: the tokens after one more event and after a trace, the codes that a trace's digits stand for, and the
+-- case counts with one more frame. Document 01, "Tokens in one trace" and "Settings and the log".
 -- Assumes nothing.
-use Prim.Native.Nat.{ℕ}
+use Prim.Native.Nat.{ℕ, _+_}
+use mathlib.Core.Bool.{cond, not, _&&_}
 use mathlib.Core.List.{List, [], _∷_}
 use lib.IntN.{pos, _+ℤ_, _-ℤ_}
+use lib.Signed.{ltZ}
 use Rattle.places.specs.declared.Place.{Place}
 use Rattle.places.specs.Sets.{has}
 use Rattle.event_log.specs.Digits.{digitValue}
+use Rattle.replay.specs.declared.CaseCounts.{CaseCounts}
 use Rattle.replay.specs.declared.Tokens.{Tokens}
 use Rattle.replay.specs.Balance.{smaller, leastBalance, lastBalance}
-
--- before the first event
-abbrev pub noTokens : Tokens
-noTokens = record { balance = pos 0; least = pos 0 }
 
 -- an event takes a token where it is an output, then gives one where it is an input; the balance that counts for the low is the one between
 unfoldable pub afterEvent : Place → Tokens → ℕ → Tokens
@@ -29,3 +28,19 @@ unfoldable pub codesIn : List ℕ → List ℕ
 codesIn [] = []
 codesIn (d ∷ []) = []
 codesIn (d ∷ (e ∷ bytes)) = digitValue e ∷ codesIn bytes
+
+-- all cases of four case counts
+abbrev pub casesOf : CaseCounts → ℕ
+casesOf c = c .fitting + c .underfed + c .overfed + c .both
+
+-- one more frame's cases go to one of the four counts, by the signs of the low and the end of its trace
+unfoldable pub withCases : CaseCounts → Tokens → ℕ → CaseCounts
+withCases c t n =
+    let underfed = ltZ (t .least) (pos 0) in
+    let overfed = ltZ (pos 0) (t .balance) in
+    record {
+      fitting = c .fitting + cond (not underfed && not overfed) n 0;
+      underfed = c .underfed + cond (underfed && not overfed) n 0;
+      overfed = c .overfed + cond (not underfed && overfed) n 0;
+      both = c .both + cond (underfed && overfed) n 0;
+    }

@@ -1,6 +1,7 @@
 // Replaying traces and judging places: document 01, "Tokens in one trace".
 use limits::Refusal;
 
+mod judgement; // judgement.rt: the case counts of a place and the verdict on it
 mod trace; // trace.rt: the tokens of one trace
 
 // What replaying the first trace of a log answers: the least balance and the balance after the last event, the low and the end of document 01.

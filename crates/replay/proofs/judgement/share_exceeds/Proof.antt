@@ -1,0 +1,22 @@
+-- `replay::judgement::share_exceeds` meets its contract: both products are below 1000 times 2 to the power 54, so neither wraps.
+-- Assumes nothing.
+use native.Mathlib.Nat.{mul-le-mul-right}
+use native.Mathlib.Omega.{arith}
+use mathlib.Core.Path.{refl}
+use borrow.Author.Needs.{needs}
+use Rattle.replay.specs.Judgement.{exceeds}
+use Rattle.replay.proofs.judgement.share_exceeds.Statement.{statement}
+use Rattle.replay.proofs.judgement.share_exceeds.Tie as tie
+
+mul-result : tie.Need-mul-result
+mul-result c = omega (arith, mul-le-mul-right (c .args .total) (c .pre .0))
+
+mul-result-2 : tie.Need-mul-result-2
+mul-result-2 c = search needs
+
+returns : tie.Need-returns
+unfolding exceeds
+returns c = refl
+
+pub share-exceeds-spec : {M : Type 1} → statement M
+share-exceeds-spec = tie.close (tie.spec mul-result mul-result-2 returns)

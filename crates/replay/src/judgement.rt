@@ -1,0 +1,87 @@
+// Judging a place over the frames of a log that was checked: document 01, "Tokens in one trace", second paragraph.
+ghost use mathlib.Core.Path.{_≡_};
+ghost use Prim.Native.Nat.{_+_, _^_, _≤_, _<_};
+ghost use Rattle.limits.specs.Settings.{mostActivities};
+ghost use Rattle.event_log.specs.Frames.{WrittenLog};
+ghost use Rattle.event_log.specs.Lines.{framesOf};
+ghost use Rattle.replay.specs.Judgement.{caseCounts, exceeds, verdictOf};
+ghost use Rattle.replay.specs.Replaying.{withCases, casesOf};
+use crate::CaseCounts;
+use crate::Tokens;
+use crate::Verdict;
+use crate::trace::replay_trace;
+use event_log::COUNT_DIGITS;
+use event_log::frame::cases_at;
+use event_log::frame::trace_end;
+use places::Place;
+
+// The case counts with those of one more trace, by the signs of its least and its last balance.
+fn add_cases(counts: CaseCounts, tokens: Tokens, cases: u16) -> CaseCounts
+    requires { ⌜ casesOf counts + cases < 2 ^ 64 ⌝ }
+    ensures { λ r. ⌜ r ≡ withCases counts tokens cases ⌝ }
+{
+    let mut counts = counts;
+    if tokens.least < 0 {
+        if tokens.balance > 0 {
+            counts.both += cases as u64;
+        } else {
+            counts.underfed += cases as u64;
+        }
+    } else if tokens.balance > 0 {
+        counts.overfed += cases as u64;
+    } else {
+        counts.fitting += cases as u64;
+    }
+    counts
+}
+
+// The four case counts of a place over a log that was accepted, frame by frame.
+pub fn count_cases(text: &[u8], place: Place) -> CaseCounts
+    requires { ⌜ WrittenLog mostActivities (framesOf (now text)) (now text) ⌝ }
+    ensures { λ r. ⌜ r ≡ caseCounts place (framesOf (now (text .entry))) ⌝ }
+{
+    let mut counts = CaseCounts {
+        fitting: 0,
+        underfed: 0,
+        overfed: 0,
+        both: 0,
+    };
+    let mut at = 0;
+    while at < text.len() {
+        let start = at + COUNT_DIGITS;
+        let end = trace_end(text, start);
+        let tokens = replay_trace(&text[start..end], place);
+        counts = add_cases(counts, tokens, cases_at(text, at));
+        at = end + 1;
+    }
+    counts
+}
+
+// Whether the share of some cases in all of them is above a threshold in thousandths.
+fn share_exceeds(threshold: u16, total: u64, cases: u64) -> bool
+    requires { ⌜ (threshold ≤ 1000) × (cases ≤ total) × (total < 2 ^ 54) ⌝ }
+    ensures { λ r. ⌜ r ≡ exceeds threshold total cases ⌝ }
+{
+    (threshold as u64) * total < 1000 * cases
+}
+
+// The verdict on a place from its four case counts, which add up to all cases.
+pub fn verdict_on(threshold: u16, counts: CaseCounts) -> Verdict
+    requires { ⌜ (threshold ≤ 1000) × (casesOf counts < 2 ^ 54) ⌝ }
+    ensures { λ r. ⌜ r ≡ verdictOf threshold (casesOf counts) counts ⌝ }
+{
+    let total = counts.fitting + counts.underfed + counts.overfed + counts.both;
+    let underfed = share_exceeds(threshold, total, counts.underfed + counts.both);
+    let overfed = share_exceeds(threshold, total, counts.overfed + counts.both);
+    if underfed {
+        if overfed {
+            Verdict::Both
+        } else {
+            Verdict::Underfed
+        }
+    } else if overfed {
+        Verdict::Overfed
+    } else {
+        Verdict::Fitting
+    }
+}
