@@ -1,24 +1,19 @@
 -- Stepping through the frames of a log: what the count and the end of a trace are at an index, byte by byte, and that of a text that goes on
 -- with a frame they are the frame's own.
 -- Assumes nothing.
-use Prim.Native.Nat.{ℕ, _+_, _*_, _/_, _%_, _^_, _≤_, _<_}
-use native.Mathlib.Numerals.{add-one}
+use Prim.Native.Nat.{ℕ, suc, _+_, _*_, _/_, _%_, _^_, _≤_, _<_}
 use native.Mathlib.Omega.{arith}
 use mathlib.Core.Path.{_≡_, refl, ap}
 use mathlib.Core.List.{List, [], _∷_, _++_, flatMap}
 use borrow.Author.Tests.{le-leb, lt-leb, ne-eqb}
-use lib.Dec.{ltb}
 use lib.ListN.{length, drop, getD, length-append, length-drop, drop-of-length-le}
 use lib.Seq.{drop-cons, take-at, drop-drop}
-use Rattle.foundation.proofs.Booleans.{cond-either}
-use Rattle.event_log.specs.Digits.{digitValue, readHex, digitByte, writeHex, lineFeed}
+use Rattle.event_log.specs.Digits.{digitValue, readHex, writeHex, lineFeed}
 use Rattle.event_log.specs.Frames.{countDigits}
 use Rattle.event_log.specs.Stepping.{casesAt, pairsLength, traceEnd}
-use Rattle.event_log.proofs.DigitLaws.{read-write, length-write}
-
--- the byte at an index, and the text after it
-byte-next : (text : List ℕ) (at after : ℕ) → at + 1 ≡ after → at < length text → drop at text ≡ getD text at 0 ∷ drop after text
-byte-next text at after e h = rw (← e, add-one at) (drop-cons text at 0 h)
+use Rattle.event_log.proofs.DigitLaws.{byte-is-digit, read-write, length-write}
+use Rattle.event_log.proofs.TextLines.{digit-no-feed}
+use Rattle.event_log.proofs.Counts.{four-from}
 
 module _ (text : List ℕ) (from : ℕ) where
   pub cases-short : length text < from + countDigits → casesAt text from ≡ 0
@@ -33,14 +28,7 @@ module _ (text : List ℕ) (from : ℕ) where
       + 16 * digitValue (getD text (from + 2) 0)
       + digitValue (getD text (from + 3) 0)
   unfolding casesAt readHex
-  cases-number h =
-      rw (
-        le-leb (from + countDigits) (length text) h,
-        byte-next text from (from + 1) refl (omega arith),
-        byte-next text (from + 1) (from + 2) (omega arith) (omega arith),
-        byte-next text (from + 2) (from + 3) (omega arith) (omega arith),
-        byte-next text (from + 3) (from + 4) (omega arith) (omega arith),
-      ) (omega arith)
+  cases-number h = rw (le-leb (from + countDigits) (length text) h, four-from text from h) (omega arith)
 
   -- where the text goes on with the digits of a case count, that is the count
   pub cases-written : (n : ℕ) (rest : List ℕ) → drop from text ≡ writeHex countDigits n ++ rest → n < 16 ^ countDigits → casesAt text from ≡ n
@@ -65,28 +53,24 @@ pairs-step d (e ∷ bytes) other = rw (ne-eqb d lineFeed other)
 module _ (text : List ℕ) (from : ℕ) where
   pub end-here : from < length text → getD text from 0 ≡ lineFeed → traceEnd text from ≡ from
   unfolding traceEnd
-  end-here h e = rw (byte-next text from (from + 1) refl h, e, pairs-end (drop (from + 1) text)) (omega arith)
+  end-here h e = rw (drop-cons text from 0 h, e, pairs-end (drop (suc from) text)) (omega arith)
 
   pub end-later : from < length text → (getD text from 0 ≡ lineFeed → ⊥) → traceEnd text from ≡ traceEnd text (from + 2)
   unfolding traceEnd
   end-later h other =
-      let two : from + 1 + 1 ≡ from + 2 = omega arith in
-      rw (byte-next text from (from + 1) refl h, pairs-step (getD text from 0) (drop (from + 1) text) other, drop-drop 1 (from + 1) text, two)
+      let two : suc from + 1 ≡ from + 2 = omega arith in
+      rw (drop-cons text from 0 h, pairs-step (getD text from 0) (drop (suc from) text) other, drop-drop 1 (suc from) text, two)
       (omega arith)
 
   pub end-past : length text ≤ from → traceEnd text from ≡ from
   unfolding traceEnd pairsLength
   end-past h = rw (drop-of-length-le text h) (omega arith)
 
--- the byte of a digit is no line feed
-byte-no-feed : (v : ℕ) → digitByte v ≡ lineFeed → ⊥
-unfolding digitByte
-byte-no-feed v = cond-either (λ (byte : ℕ). byte ≡ lineFeed → ⊥) (ltb v 10) (λ e. omega arith) (λ e. omega arith)
-
 pairs-written : (trace rest : List ℕ) → pairsLength (flatMap (writeHex 2) trace ++ (lineFeed ∷ rest)) ≡ 2 * length trace
 unfolding flatMap writeHex
 pairs-written [] rest = pairs-end rest
-pairs-written (a ∷ trace) rest = rw (pairs-step _ _ (byte-no-feed (a / 16 % 16))) (omega (arith, pairs-written trace rest))
+pairs-written (a ∷ trace) rest =
+    rw (pairs-step _ _ (digit-no-feed _ (byte-is-digit (a / 16 % 16) (omega arith)))) (omega (arith, pairs-written trace rest))
 
 -- where the text goes on with the digits of a trace and a line feed, the trace ends at the line feed
 pub end-written : (text : List ℕ) (from : ℕ) (trace rest : List ℕ)
