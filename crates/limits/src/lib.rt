@@ -1,5 +1,6 @@
 // The settings of a call and the refusals that every call can answer with: document 01, "Settings and the log".
 ghost use mathlib.Core.Path.{_≡_};
+ghost use mathlib.Core.Bool.{_&&_};
 ghost use Rattle.limits.specs.Refusals.{number, value};
 ghost use Rattle.limits.specs.Settings.{boundInRange, thresholdInRange};
 
@@ -42,6 +43,17 @@ pub fn threshold_in_range(threshold: u16) -> bool
     ensures { λ r. ⌜ r ≡ thresholdInRange threshold ⌝ }
 {
     threshold <= 1000
+}
+
+// Whether an activity bound and a threshold are both in their ranges.
+pub fn bound_and_threshold_in_range(activities: u8, threshold: u16) -> bool
+    ensures { λ r. ⌜ r ≡ (boundInRange activities && thresholdInRange threshold) ⌝ }
+{
+    if bound_in_range(activities) {
+        threshold_in_range(threshold)
+    } else {
+        false
+    }
 }
 
 // The number of a refusal.
