@@ -17,8 +17,6 @@ use Rattle.limits.specs.declared.Refusal.the-variants.{InvalidSetting, EmptyLog
 use Rattle.limits.specs.Refusals.{firstRefusal, answer}
 use Rattle.limits.specs.Settings.{boundInRange, boundFault}
 use Rattle.event_log.specs.declared.Checked.the-variants.{Accepted, Refused}
-use Rattle.event_log.specs.Frames.{totalCases}
-use Rattle.event_log.specs.Lines.{framesOf}
 use Rattle.event_log.specs.Checking.{emptyFault, textFault, logRefusal, checked}
 use Rattle.event_log.specs.Reading.{linesChecked}
 use Rattle.event_log.proofs.FirstOf.{given-none, only-one, first-none}
@@ -78,19 +76,11 @@ module _ (A : ℕ) (text : List ℕ) where
     unfolding checked linesChecked
     lines-checked some-byte = rw (bound-passes A .1 in-range, lines-decide A text some-byte)
 
-    -- a call whose settings and place pass refuses what checking the log refuses
-    pub refused-log : (r : Refusal) → checked A text ≡ Refused r → logRefusal none none A text ≡ some r
-    unfolding checked
-    refused-log r e = go (logRefusal none none A text) (rw (bound-passes A .1 in-range) at e)
-      where
-        go : (o : Option Refusal) → answer Refused o (Accepted (length (framesOf text)) (totalCases (framesOf text))) ≡ Refused r → o ≡ some r
-        go none h = impossible (cc)
-        go (some s) h = cc
+-- a check that answers with a refusal was given it, and one that accepts was given none
+pub answer-refused : (o : Option Refusal) (n N : ℕ) (r : Refusal) → answer Refused o (Accepted n N) ≡ Refused r → o ≡ some r
+answer-refused none n N r e = impossible (cc)
+answer-refused (some s) n N r e = cc
 
-    pub accepted-log : (n N : ℕ) → checked A text ≡ Accepted n N → logRefusal none none A text ≡ none
-    unfolding checked
-    accepted-log n N e = go (logRefusal none none A text) (rw (bound-passes A .1 in-range) at e)
-      where
-        go : (o : Option Refusal) → answer Refused o (Accepted (length (framesOf text)) (totalCases (framesOf text))) ≡ Accepted n N → o ≡ none
-        go none h = refl
-        go (some s) h = impossible (cc)
+pub answer-accepted : (o : Option Refusal) (n N m M : ℕ) → answer Refused o (Accepted n N) ≡ Accepted m M → o ≡ none
+answer-accepted none n N m M e = refl
+answer-accepted (some s) n N m M e = impossible (cc)

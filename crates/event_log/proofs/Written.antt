@@ -29,10 +29,13 @@ use Rattle.event_log.proofs.LogChecks.{log-passes, bound-passes, lines-
 use Rattle.event_log.proofs.FrameLines.{frameLine, FramedLine, under-back, frame-no-fault, no-fault-framed}
 use Rattle.event_log.proofs.TextLines.{lineText, text-of-lines, written-text, lines-written}
 
--- a bound in its range is one that two digits can write
-pub bound-narrow : (A : ℕ) → boundInRange A ≡ true → A ≤ 256
+-- a bound in its range is at most what a set can name, and so one that two digits can write
+pub bound-most : (A : ℕ) → boundInRange A ≡ true → A ≤ mostActivities
 unfolding boundInRange
-bound-narrow A e = let h = leb-true A mostActivities (and-eq-true-iff (leb 2 A) (leb A mostActivities) .0 e .1) in omega arith
+bound-most A e = leb-true A mostActivities (and-eq-true-iff (leb 2 A) (leb A mostActivities) .0 e .1)
+
+bound-narrow : (A : ℕ) → boundInRange A ≡ true → A ≤ 256
+bound-narrow A e = omega (arith, bound-most A e)
 
 module _ (A : ℕ) where
   lines-framed : (k : ℕ) (ls : List Line) → k ≤ mostFrames → linesFault A k ls ≡ none

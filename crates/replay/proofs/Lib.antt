@@ -7,4 +7,6 @@ pub mod EventByEvent
 pub mod CodeDigits
 pub mod FrameByFrame
 pub mod FramesLeft
+pub mod Arguments
+pub mod FirstFrame
 pub mod Examples

@@ -1,17 +1,34 @@
--- The steps of replaying and judging: the tokens after one more event and after a trace, the codes that a trace's digits stand for, and the
--- case counts with one more frame. Document 01, "Tokens in one trace" and "Settings and the log".
+-- The steps of replaying and judging: the checks of a call's arguments, the tokens after one more event and after a trace, the codes that a
+-- trace's digits stand for, and the case counts with one more frame. Document 01, "Tokens in one trace" and "Settings and the log".
 -- Assumes nothing.
 use Prim.Native.Nat.{ℕ, _+_}
-use mathlib.Core.Bool.{cond, not, _&&_}
+use mathlib.Core.Bool.{Bool, cond, not, _&&_}
 use mathlib.Core.List.{List, [], _∷_}
 use lib.IntN.{pos, _+ℤ_, _-ℤ_}
 use lib.Signed.{ltZ}
+use lib.ListN.{length}
+use Rattle.limits.specs.declared.Refusal.the-variants.{InvalidSetting}
+use Rattle.limits.specs.Refusals.{given, answer}
 use Rattle.places.specs.declared.Place.{Place}
 use Rattle.places.specs.Sets.{has}
+use Rattle.places.specs.Places.{placeFault}
+use Rattle.event_log.specs.declared.Checked.{Checked}
+use Rattle.event_log.specs.declared.Checked.the-variants.{Accepted, Refused}
 use Rattle.event_log.specs.Digits.{digitValue}
+use Rattle.event_log.specs.Frames.{totalCases}
+use Rattle.event_log.specs.Lines.{framesOf}
+use Rattle.event_log.specs.Checking.{logRefusal}
 use Rattle.replay.specs.declared.CaseCounts.{CaseCounts}
 use Rattle.replay.specs.declared.Tokens.{Tokens}
 use Rattle.replay.specs.Balance.{smaller, leastBalance, lastBalance}
+
+-- checking the arguments of a call on a log and a place, whose settings are in their ranges or not
+unfoldable pub argumentsChecked : ℕ → Bool → List ℕ → Place → Checked
+argumentsChecked A inRange text p =
+    answer
+    Refused
+    (logRefusal (given (not inRange) InvalidSetting) (placeFault A 0 p) A text)
+    (Accepted (length (framesOf text)) (totalCases (framesOf text)))
 
 -- an event takes a token where it is an output, then gives one where it is an input; the balance that counts for the low is the one between
 unfoldable pub afterEvent : Place → Tokens → ℕ → Tokens

@@ -1,5 +1,19 @@
 // Replaying traces and judging places: document 01, "Tokens in one trace".
+ghost use mathlib.Core.Path.{_≡_};
+ghost use Rattle.replay.specs.Answers.{replayed, judged};
+ghost use Rattle.replay.specs.Replaying.{argumentsChecked};
+use crate::judgement::count_cases;
+use crate::judgement::verdict_on;
+use crate::trace::replay_trace;
+use event_log::COUNT_DIGITS;
+use event_log::Checked;
+use event_log::check_lines;
+use event_log::frame::trace_end;
 use limits::Refusal;
+use limits::bound_and_threshold_in_range;
+use limits::bound_in_range;
+use places::Place;
+use places::place_under;
 
 mod judgement; // judgement.rt: the case counts of a place and the verdict on it
 mod trace; // trace.rt: the tokens of one trace
@@ -39,4 +53,61 @@ pub enum Judged {
         verdict: Verdict,
     },
     Refused(Refusal),
+}
+
+// Checks the arguments of a call on a log and a place, in the order of checks. Whether the call's settings are in their ranges is handed in.
+fn check_arguments(activities: u8, in_range: bool, text: &[u8], place: Place) -> Checked
+    ensures { λ r. ⌜ r ≡ argumentsChecked activities in_range (now (text .entry)) place ⌝ }
+{
+    if !in_range {
+        return Checked::Refused(Refusal::InvalidSetting);
+    }
+    if !place_under(activities, place) {
+        return Checked::Refused(Refusal::InvalidPlace { index: 0 });
+    }
+    if text.len() == 0 {
+        return Checked::Refused(Refusal::EmptyLog);
+    }
+    check_lines(activities, text)
+}
+
+// Replays the first trace of a log on a place. The whole log is checked.
+pub fn replay_first_trace(activities: u8, text: &[u8], place: Place) -> Replayed
+    ensures { λ r. ⌜ r ≡ replayed activities (now (text .entry)) place ⌝ }
+{
+    match check_arguments(activities, bound_in_range(activities), text, place) {
+        Checked::Refused(refusal) => Replayed::Refused(refusal),
+        Checked::Accepted {
+            frames: _,
+            cases: _,
+        } => {
+            let start = COUNT_DIGITS;
+            let end = trace_end(text, start);
+            let tokens = replay_trace(&text[start..end], place);
+            Replayed::Balances {
+                least: tokens.least,
+                last: tokens.balance,
+            }
+        }
+    }
+}
+
+// Judges a place over a log at a threshold.
+pub fn judge_place(activities: u8, threshold: u16, text: &[u8], place: Place) -> Judged
+    ensures { λ r. ⌜ r ≡ judged activities threshold (now (text .entry)) place ⌝ }
+{
+    let in_range = bound_and_threshold_in_range(activities, threshold);
+    match check_arguments(activities, in_range, text, place) {
+        Checked::Refused(refusal) => Judged::Refused(refusal),
+        Checked::Accepted {
+            frames: _,
+            cases: _,
+        } => {
+            let counts = count_cases(text, place);
+            Judged::Counted {
+                counts,
+                verdict: verdict_on(threshold, counts),
+            }
+        }
+    }
 }

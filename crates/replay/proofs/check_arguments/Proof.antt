@@ -1,0 +1,56 @@
+-- `replay::check_arguments` meets its contract: its tests are the checks, in their order, and after them the lines decide.
+-- Assumes nothing.
+use mathlib.Core.Path.{sym, _∙_}
+use native.Mathlib.Omega.{arith}
+use borrow.Author.Needs.{needs}
+use borrow.Author.Tests.{not-true, not-false}
+use Rattle.replay.proofs.Arguments.{setting-refused, place-refused, empty-refused, lines-decided}
+use Rattle.replay.proofs.check_arguments.Statement.{statement}
+use Rattle.replay.proofs.check_arguments.Tie as tie
+
+returns : tie.Need-returns
+returns c = sym (setting-refused _ _ _ _ (not-true _ (c .if1 .taken)))
+
+place-under-requires : tie.Need-place-under-requires
+place-under-requires c κs = search needs
+
+returns-2 : tie.Need-returns-2
+returns-2 c =
+    let u = c .before in
+    sym (place-refused _ _ _ _ (not-false _ (u .before .if1 .left)) (sym (u .place-under .ensures) ∙ not-true _ (c .if2 .taken)))
+
+returns-3 : tie.Need-returns-3
+returns-3 c =
+    let u = c .before .before in
+    let a = u .before .before .before .args in
+    sym
+    (empty-refused
+    (a .activities)
+    (a .in-range)
+    (a .text .now)
+    (a .place)
+    (not-false _ (u .before .if1 .left))
+    (sym (u .place-under .ensures) ∙ not-false _ (c .before .if2 .left))
+    (omega arith))
+
+check-lines-requires : tie.Need-check-lines-requires
+check-lines-requires c κs = search needs
+
+returns-4 : tie.Need-returns-4
+returns-4 c =
+    let u = c .before .before .before in
+    c .check-lines .ensures
+    ∙ sym
+    (lines-decided
+    _
+    _
+    _
+    _
+    (not-false _ (u .before .if1 .left))
+    (sym (u .place-under .ensures) ∙ not-false _ (c .before .before .if2 .left))
+    (omega arith))
+
+pub check-arguments-spec : {M : Type 1} → statement M
+check-arguments-spec =
+    tie.close
+    (tie.spec returns place-under-requires returns-2 returns-3 check-lines-requires returns-4)

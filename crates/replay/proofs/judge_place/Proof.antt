@@ -1,0 +1,84 @@
+-- `replay::judge_place` meets its contract: it refuses what the arguments' checks refuse. Where they pass, the text is a log, whose cases are
+-- counted, and the counts give the verdict.
+-- Assumes nothing.
+use Prim.Native.Nat.{_≤_, _<_, _^_}
+use mathlib.Core.Path.{sym, _∙_}
+use mathlib.Core.Bool.{_&&_, and-eq-true-iff}
+use borrow.Author.Needs.{needs}
+use borrow.Author.Tests.{leb-true}
+use Rattle.limits.specs.Settings.{mostActivities, boundInRange, thresholdInRange}
+use Rattle.event_log.specs.Frames.{WrittenLog}
+use Rattle.event_log.specs.Lines.{framesOf}
+use Rattle.event_log.proofs.Written.{bound-most}
+use Rattle.event_log.proofs.WiderBound.{log-wider}
+use Rattle.replay.proofs.Arguments.{Passed, accepted, judge-refused, judge-accepted}
+use Rattle.replay.proofs.FrameByFrame.{verdict-counted, counts-bounded}
+use Rattle.replay.proofs.judge_place.Statement.{statement}
+use Rattle.replay.proofs.judge_place.Tie as tie
+
+-- the arguments passed
+passed : (c : tie.After-enum-told)
+    → let a = c .before .before .before .before .before .args in
+    Passed (a .activities) (boundInRange (a .activities) && thresholdInRange (a .threshold)) (a .text .now) (a .place)
+passed c =
+    let k = c .before .before in
+    accepted _ _ _ _ _ _
+    (rw (k .before .bound-and-threshold-in-range .ensures) at (sym (k .check-arguments .ensures) ∙ c .enum-told .given .1))
+
+-- the text is a log under the widest bound
+log : (c : tie.After-enum-told)
+    → let a = c .before .before .before .before .before .args in WrittenLog mostActivities (framesOf (a .text .now)) (a .text .now)
+log c =
+    let a = c .before .before .before .before .before .args in
+    log-wider
+    (bound-most _ (and-eq-true-iff (boundInRange (a .activities)) (thresholdInRange (a .threshold)) .0 (passed c .settings) .0))
+    (passed c .log)
+
+-- the threshold is in its range
+small : (c : tie.After-enum-told) → c .before .before .before .before .before .args .threshold ≤ 1000
+unfolding thresholdInRange
+small c =
+    let a = c .before .before .before .before .before .args in
+    leb-true _ _ (and-eq-true-iff (boundInRange (a .activities)) (thresholdInRange (a .threshold)) .0 (passed c .settings) .1)
+
+bound-and-threshold-in-range-requires : tie.Need-bound-and-threshold-in-range-requires
+bound-and-threshold-in-range-requires c κs = search needs
+
+check-arguments-requires : tie.Need-check-arguments-requires
+check-arguments-requires c κs = search needs
+
+enum-known-refusal : tie.Need-enum-known-refusal
+enum-known-refusal c = search needs
+
+enum-told : tie.Need-enum-told
+enum-told c = search needs
+
+count-cases-requires : tie.Need-count-cases-requires
+count-cases-requires c κs = log c
+
+verdict-on-requires : tie.Need-verdict-on-requires
+verdict-on-requires c κs = (small (c .before), rw (c .count-cases .ensures) (counts-bounded _ _ (log (c .before))))
+
+returns : tie.Need-returns
+returns c =
+    let k = c .before .before .before in
+    judge-refused _ _ _ _ _
+    (rw (k .before .bound-and-threshold-in-range .ensures) at (sym (k .check-arguments .ensures) ∙ c .before .refusal .given .1))
+
+returns-2 : tie.Need-returns-2
+returns-2 c =
+    let k = c .before in
+    rw (c .verdict-on .ensures, k .count-cases .ensures, verdict-counted _ _ _) (judge-accepted _ _ _ _ (passed (k .before)))
+
+pub judge-place-spec : {M : Type 1} → statement M
+judge-place-spec =
+    tie.close
+    (tie.spec
+    bound-and-threshold-in-range-requires
+    check-arguments-requires
+    enum-known-refusal
+    enum-told
+    count-cases-requires
+    verdict-on-requires
+    returns
+    returns-2)

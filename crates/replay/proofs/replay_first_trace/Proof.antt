@@ -1,0 +1,81 @@
+-- `replay::replay_first_trace` meets its contract: it refuses what the arguments' checks refuse. Where they pass, the text is a log, and its first
+-- frame's digits are handed on as the part between the count and the line feed.
+-- Assumes nothing.
+use mathlib.Core.Path.{sym, _∙_}
+use native.Mathlib.Omega.{arith}
+use mir.Syntax.{w16}
+use mir.ValLaws.{toZ-ofZ}
+use borrow.Author.Needs.{needs}
+use Rattle.event_log.proofs.Written.{bound-most}
+use Rattle.event_log.proofs.WiderBound.{log-wider}
+use Rattle.limits.specs.Settings.{boundInRange}
+use Rattle.replay.proofs.Arguments.{Passed, accepted, replay-refused, replay-accepted}
+use Rattle.replay.proofs.FirstFrame.{FirstDigits, first-digits}
+use Rattle.replay.proofs.replay_first_trace.Statement.{statement}
+use Rattle.replay.proofs.replay_first_trace.Tie as tie
+
+-- the arguments passed
+passed : (c : tie.After-enum-told)
+    → let a = c .before .before .before .before .before .args in Passed (a .activities) (boundInRange (a .activities)) (a .text .now) (a .place)
+passed c =
+    let k = c .before .before in
+    accepted _ _ _ _ _ _ (rw (k .before .bound-in-range .ensures) at (sym (k .check-arguments .ensures) ∙ c .enum-told .given .1))
+
+-- the digits of the first frame
+digits : (c : tie.After-enum-told) → FirstDigits (c .before .before .before .before .before .args .text .now)
+digits c = first-digits _ (log-wider (bound-most _ (passed c .settings)) (passed c .log))
+
+bound-in-range-requires : tie.Need-bound-in-range-requires
+bound-in-range-requires c κs = search needs
+
+check-arguments-requires : tie.Need-check-arguments-requires
+check-arguments-requires c κs = search needs
+
+enum-known-refusal : tie.Need-enum-known-refusal
+enum-known-refusal c = search needs
+
+enum-told : tie.Need-enum-told
+enum-told c = search needs
+
+trace-end-requires : tie.Need-trace-end-requires
+trace-end-requires c κs = search needs
+
+sub-replay-trace : tie.Need-sub-replay-trace
+sub-replay-trace c = omega (arith, digits (c .before) .starts, c .trace-end .ensures)
+
+part-replay-trace-start : tie.Need-part-replay-trace-start
+part-replay-trace-start c = omega (arith, digits (c .before) .starts, c .trace-end .ensures)
+
+part-replay-trace-end : tie.Need-part-replay-trace-end
+part-replay-trace-end c = omega (arith, digits (c .before) .ends, c .trace-end .ensures)
+
+replay-trace-requires : tie.Need-replay-trace-requires
+replay-trace-requires c κs = rw (c .before .trace-end .ensures) (digits (c .before .before) .short)
+
+returns : tie.Need-returns
+returns c =
+    let k = c .before .before .before in
+    replay-refused _ _ _ _ (rw (k .before .bound-in-range .ensures) at (sym (k .check-arguments .ensures) ∙ c .before .refusal .given .1))
+
+returns-2 : tie.Need-returns-2
+returns-2 c =
+    let t = c .before in
+    let e = t .before .before in
+    rw (toZ-ofZ w16 (t .replay-trace .result .least) (search needs), toZ-ofZ w16 (t .replay-trace .result .balance) (search needs))
+    (rw (t .replay-trace .ensures, e .trace-end .ensures, digits (e .before) .trace) (replay-accepted _ _ _ (passed (e .before))))
+
+pub replay-first-trace-spec : {M : Type 1} → statement M
+replay-first-trace-spec =
+    tie.close
+    (tie.spec
+    bound-in-range-requires
+    check-arguments-requires
+    enum-known-refusal
+    enum-told
+    trace-end-requires
+    sub-replay-trace
+    part-replay-trace-start
+    part-replay-trace-end
+    replay-trace-requires
+    returns
+    returns-2)
