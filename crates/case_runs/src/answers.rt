@@ -4,6 +4,13 @@ use event_log::check_log;
 use limits::Refusal;
 use limits::number_of;
 use limits::value_of;
+use places::Place;
+use replay::CaseCounts;
+use replay::Judged;
+use replay::Replayed;
+use replay::Verdict;
+use replay::judge_place;
+use replay::replay_first_trace;
 
 // Writes the name of a case, and whether its answer is the expected one.
 pub fn report(name: &[u8], same: bool) {
@@ -39,5 +46,95 @@ pub fn refuses(name: &[u8], activities: u8, text: &[u8], number: u8, value: usiz
             cases: _,
         } => report(name, false),
         Checked::Refused(refusal) => report(name, is_refusal(refusal, number, value)),
+    }
+}
+
+// A replay with this least and this last balance.
+pub fn replays(
+    name: &[u8],
+    activities: u8,
+    text: &[u8],
+    inputs: u16,
+    outputs: u16,
+    least: i16,
+    last: i16,
+) {
+    match replay_first_trace(activities, text, Place { inputs, outputs }) {
+        Replayed::Balances { least: l, last: e } => report(name, l == least && e == last),
+        Replayed::Refused(_) => report(name, false),
+    }
+}
+
+// A replay that is refused, with this number and value.
+pub fn replay_refuses(
+    name: &[u8],
+    activities: u8,
+    text: &[u8],
+    inputs: u16,
+    outputs: u16,
+    number: u8,
+    value: usize,
+) {
+    match replay_first_trace(activities, text, Place { inputs, outputs }) {
+        Replayed::Balances { least: _, last: _ } => report(name, false),
+        Replayed::Refused(refusal) => report(name, is_refusal(refusal, number, value)),
+    }
+}
+
+// Whether two case counts are the same.
+fn same_counts(a: CaseCounts, b: CaseCounts) -> bool {
+    a.fitting == b.fitting && a.underfed == b.underfed && a.overfed == b.overfed && a.both == b.both
+}
+
+// A number for each verdict, to compare two.
+fn verdict_number(verdict: Verdict) -> u8 {
+    match verdict {
+        Verdict::Fitting => 0,
+        Verdict::Underfed => 1,
+        Verdict::Overfed => 2,
+        Verdict::Both => 3,
+    }
+}
+
+// A judgement with these case counts and this verdict.
+pub fn judges(
+    name: &[u8],
+    activities: u8,
+    threshold: u16,
+    text: &[u8],
+    inputs: u16,
+    outputs: u16,
+    counts: CaseCounts,
+    verdict: Verdict,
+) {
+    match judge_place(activities, threshold, text, Place { inputs, outputs }) {
+        Judged::Counted {
+            counts: c,
+            verdict: v,
+        } => report(
+            name,
+            same_counts(c, counts) && verdict_number(v) == verdict_number(verdict),
+        ),
+        Judged::Refused(_) => report(name, false),
+    }
+}
+
+// A judgement that is refused, with this number and value.
+pub fn judge_refuses(
+    name: &[u8],
+    activities: u8,
+    threshold: u16,
+    text: &[u8],
+    inputs: u16,
+    outputs: u16,
+    number: u8,
+    value: usize,
+) {
+    match judge_place(activities, threshold, text, Place { inputs, outputs }) {
+        Judged::Counted {
+            counts: _,
+            verdict: _,
+        } => report(name, false),
+        Judged::Refused(refusal) => report(name, is_refusal(refusal, number, value)),
     }
 }

@@ -3,7 +3,6 @@ use crate::answers::accepts;
 use crate::answers::refuses;
 use crate::texts::long_line;
 use crate::texts::put;
-use crate::texts::repeat;
 
 // M8 to M10, and the log of M7.
 pub fn table() {
@@ -31,18 +30,26 @@ pub fn settings() {
     refuses(b"bound 255", 255, b"", 1, 0);
 }
 
-// Number 2: the form of a frame.
-pub fn frames() {
+// Number 2: the line feed, and the number of digits.
+pub fn lengths() {
     refuses(b"no line feed", 6, b"00010001", 2, 0);
     refuses(b"another byte for the line feed", 6, b"00010001\r", 2, 0);
     refuses(b"7 digits", 6, b"0001001\n", 2, 0);
     refuses(b"6 digits", 6, b"000100\n", 2, 0);
     refuses(b"9 digits", 6, b"000100010\n", 2, 0);
+}
+
+// Number 2: bytes that are no digits.
+pub fn digits() {
     refuses(b"lower case", 16, b"0001000a01\n", 2, 0);
     refuses(b"the byte before 0", 16, b"0001000/01\n", 2, 0);
     refuses(b"the byte after 9", 16, b"0001000:01\n", 2, 0);
     refuses(b"the byte before A", 16, b"0001000@01\n", 2, 0);
     refuses(b"the byte after F", 16, b"0001000G01\n", 2, 0);
+}
+
+// Number 2: the case count. Number 2 also of an empty line.
+pub fn counts() {
     refuses(b"a count with a space", 6, b" 0010001\n", 2, 0);
     accepts(b"count 0001", 6, b"00010001\n", 1, 1);
     accepts(b"count FFFF", 6, b"FFFF0001\n", 1, 65535);
@@ -99,18 +106,4 @@ pub fn longest_trace() {
     refuses(b"too long before unknown", 2, &over, 5, 0);
     put(&mut over, 0, b"0000");
     refuses(b"malformed before too long", 3, &over, 2, 0);
-}
-
-// Number 5 by index: 4,096 lines, and 4,097.
-pub fn most_frames() {
-    let mut fits = [0u8; 36864];
-    repeat(&mut fits, b"FFFF0001\n");
-    accepts(b"4096 lines", 2, &fits, 4096, 268431360);
-    let mut over = [0u8; 36873];
-    repeat(&mut over, b"00010001\n");
-    refuses(b"4097 lines", 2, &over, 5, 4096);
-    put(&mut over, 36864, b"x");
-    refuses(b"line 4096 is not read", 2, &over, 5, 4096);
-    put(&mut over, 36855, b"x");
-    refuses(b"line 4095 is read", 2, &over, 2, 4095);
 }
