@@ -64,11 +64,11 @@ unfolding count
 count-le-length s events = sum-le-length (has s) (λ a. omega arith) events
 
 -- the ranges of the two balances that replaying answers
-pub record Ranges (p : Place) (trace : List ℕ) : Type 0 where
-  pub least-from : leZ (negsuc 253) (leastBalance p trace) ≡ true
-  pub least-to : leZ (leastBalance p trace) (pos 0) ≡ true
-  pub last-from : leZ (negsuc 253) (lastBalance p trace) ≡ true
-  pub last-to : leZ (lastBalance p trace) (pos 254) ≡ true
+pub record Ranges (least last : ℤ) : Type 0 where
+  pub least-from : leZ (negsuc 253) least ≡ true
+  pub least-to : leZ least (pos 0) ≡ true
+  pub last-from : leZ (negsuc 253) last ≡ true
+  pub last-to : leZ last (pos 254) ≡ true
 
 module _ (p : Place) where
   -- the least balance is the balance at some event
@@ -124,7 +124,7 @@ module _ (p : Place) where
       rw e at (balance-from (a ∷ events) k short)
 
   -- a trace that a log may have
-  pub ranges : (trace : List ℕ) → length trace ≤ mostEvents → Ranges p trace
+  pub ranges : (trace : List ℕ) → length trace ≤ mostEvents → Ranges (leastBalance p trace) (lastBalance p trace)
   unfolding lastBalance
   ranges trace short =
       record {

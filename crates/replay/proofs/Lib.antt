@@ -9,4 +9,5 @@ pub mod FrameByFrame
 pub mod FramesLeft
 pub mod Arguments
 pub mod FirstFrame
+pub mod AnswerLaws
 pub mod Examples

@@ -22,7 +22,7 @@ use Rattle.places.specs.declared.Place.{Place}
 use Rattle.places.specs.Sets.{has, within}
 use Rattle.places.specs.Places.{lighter}
 use Rattle.places.proofs.Lighter.{within-has, lighter-sets}
-use Rattle.event_log.specs.Frames.{Frame, totalCases}
+use Rattle.event_log.specs.Frames.{Frame, WrittenLog, totalCases}
 use Rattle.replay.specs.Balance.{count, balanceAt, leastBalance, lastBalance, underfeeds, overfeeds}
 use Rattle.replay.specs.Judgement.{casesWhere, caseCounts, underfedCases, overfedCases, exceeds}
 use Rattle.replay.proofs.Extremes.{least-reached, least-lowest}
@@ -137,3 +137,9 @@ module _ (p q : Place) (light : lighter p q ≡ true) where
           underfed-at = λ T. exceeds-more T (totalCases frames) underfed-le;
           overfed-at = λ T. exceeds-more T (totalCases frames) overfed-le;
         }
+
+-- the traces of a log have known codes, so the law holds of every log under a bound that a set can name
+pub log-monotone : (A : ℕ) (p q : Place) (frames : List Frame) (text : List ℕ) → A ≤ mostActivities → WrittenLog A frames text
+    → lighter p q ≡ true → Monotone p q frames
+log-monotone A p q frames text bound log light =
+    monotone p q light frames (each-imply (λ f u. each-imply (λ a h. omega arith) (u .known)) (log .each))
