@@ -33,23 +33,11 @@ sound c = sound-line _ _ _ _ _ _ (sym (c .before .before .before .check-line .en
 loop-holds : tie.Need-loop-holds Inv-loop μ-loop
 loop-holds c = (pass-all _ _, omega arith, omega arith)
 
-check-line-requires : tie.Need-check-line-requires Inv-loop μ-loop
-check-line-requires c κs = search needs
-
-enum-known-refusal : tie.Need-enum-known-refusal Inv-loop μ-loop
-enum-known-refusal c = search needs
-
 returns : tie.Need-returns Inv-loop μ-loop
 returns c =
     let k = c .before .before .before in
     sym (at-faulty _ _ _ _ _ _ (k .before .loop-test .taken) (sym (k .check-line .ensures) ∙ c .before .refusal .given .1))
     ∙ k .before .before .loop .inv .0
-
-enum-known-next : tie.Need-enum-known-next Inv-loop μ-loop
-enum-known-next c = search needs
-
-add-frames : tie.Need-add-frames Inv-loop μ-loop
-add-frames c = omega arith
 
 cast-cases : tie.Need-cast-cases Inv-loop μ-loop
 cast-cases c = omega (arith, sound c .small)
@@ -79,11 +67,11 @@ check-lines-spec =
     Inv-loop
     μ-loop
     loop-holds
-    check-line-requires
-    enum-known-refusal
+    (λ c κs. search needs)  -- check-line-requires
+    (λ c. search needs)  -- enum-known-refusal
     returns
-    enum-known-next
-    add-frames
+    (λ c. search needs)  -- enum-known-next
+    (λ c. omega arith)  -- add-frames
     cast-cases
     add-cases
     loop-less

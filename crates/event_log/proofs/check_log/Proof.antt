@@ -8,9 +8,6 @@ use Rattle.event_log.proofs.LogChecks.{bound-refused, empty-refused, li
 use Rattle.event_log.proofs.check_log.Statement.{statement}
 use Rattle.event_log.proofs.check_log.Tie as tie
 
-bound-in-range-requires : tie.Need-bound-in-range-requires
-bound-in-range-requires c κs = search needs
-
 returns : tie.Need-returns
 returns c = sym (bound-refused _ _ (sym (c .before .bound-in-range .ensures) ∙ not-true _ (c .if1 .taken)))
 
@@ -19,13 +16,16 @@ returns-2 c =
     let a = c .before .before .before .before .args in
     sym (empty-refused (a .activities) (a .text .now) (sym (c .before .before .bound-in-range .ensures) ∙ not-false _ (c .before .if1 .left)) (omega arith))
 
-check-lines-requires : tie.Need-check-lines-requires
-check-lines-requires c κs = search needs
-
 returns-3 : tie.Need-returns-3
 returns-3 c =
     c .check-lines .ensures ∙ sym (lines-checked _ _ (sym (c .before .before .before .bound-in-range .ensures) ∙ not-false _ (c .before .before .if1 .left)) (omega arith))
 
 pub check-log-spec : {M : Type 1} → statement M
 check-log-spec =
-    tie.close (tie.spec bound-in-range-requires returns returns-2 check-lines-requires returns-3)
+    tie.close
+    (tie.spec
+    (λ c κs. search needs)  -- bound-in-range-requires
+    returns
+    returns-2
+    (λ c κs. search needs)  -- check-lines-requires
+    returns-3)

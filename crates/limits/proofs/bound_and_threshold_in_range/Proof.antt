@@ -5,12 +5,6 @@ use borrow.Author.Needs.{needs}
 use Rattle.limits.proofs.bound_and_threshold_in_range.Statement.{statement}
 use Rattle.limits.proofs.bound_and_threshold_in_range.Tie as tie
 
-bound-in-range-requires : tie.Need-bound-in-range-requires
-bound-in-range-requires c κs = search needs
-
-threshold-in-range-requires : tie.Need-threshold-in-range-requires
-threshold-in-range-requires c κs = search needs
-
 returns : tie.Need-returns
 returns c =
     rw (sym (c .before .before .bound-in-range .ensures) ∙ c .before .if1 .taken) (c .threshold-in-range .ensures)
@@ -20,4 +14,9 @@ returns-2 c = rw (sym (c .before .bound-in-range .ensures) ∙ c .if1 .left)
 
 pub bound-and-threshold-in-range-spec : {M : Type 1} → statement M
 bound-and-threshold-in-range-spec =
-    tie.close (tie.spec bound-in-range-requires threshold-in-range-requires returns returns-2)
+    tie.close
+    (tie.spec
+    (λ c κs. search needs)  -- bound-in-range-requires
+    (λ c κs. search needs)  -- threshold-in-range-requires
+    returns
+    returns-2)

@@ -6,9 +6,6 @@ use Rattle.places.proofs.Bounds.{below-sixteen, below-shift}
 use Rattle.places.proofs.below_bound.Statement.{statement}
 use Rattle.places.proofs.below_bound.Tie as tie
 
-shr-result : tie.Need-shr-result
-shr-result c = search needs
-
 returns : tie.Need-returns
 returns c = rw (le-leb _ _ (c .if1 .taken), below-sixteen _ _ (c .if1 .taken) (c .before .fits .set .fits))
 
@@ -16,4 +13,9 @@ returns-2 : tie.Need-returns-2
 returns-2 c = below-shift (c .before .args .activities) (c .before .args .set)
 
 pub below-bound-spec : {M : Type 1} → statement M
-below-bound-spec = tie.close (tie.spec shr-result returns returns-2)
+below-bound-spec =
+    tie.close
+    (tie.spec
+    (λ c. search needs)  -- shr-result
+    returns
+    returns-2)

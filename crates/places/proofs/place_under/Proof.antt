@@ -15,12 +15,6 @@ returns-2 : tie.Need-returns-2
 unfolding through placeUnder
 returns-2 c = rw (eq-eqb _ _ (c .if2 .taken), ne-eqb _ _ (c .before .before .if1 .left))
 
-below-bound-requires : tie.Need-below-bound-requires
-below-bound-requires c κs = search needs
-
-below-bound-requires-2 : tie.Need-below-bound-requires-2
-below-bound-requires-2 c κs = search needs
-
 returns-3 : tie.Need-returns-3
 unfolding through placeUnder
 returns-3 c =
@@ -36,4 +30,10 @@ returns-4 c =
 pub place-under-spec : {M : Type 1} → statement M
 place-under-spec =
     tie.close
-    (tie.spec returns returns-2 below-bound-requires below-bound-requires-2 returns-3 returns-4)
+    (tie.spec
+    returns
+    returns-2
+    (λ c κs. search needs)  -- below-bound-requires
+    (λ c κs. search needs)  -- below-bound-requires-2
+    returns-3
+    returns-4)

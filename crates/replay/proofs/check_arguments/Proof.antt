@@ -11,9 +11,6 @@ use Rattle.replay.proofs.check_arguments.Tie as tie
 returns : tie.Need-returns
 returns c = sym (setting-refused _ _ _ _ (not-true _ (c .if1 .taken)))
 
-place-under-requires : tie.Need-place-under-requires
-place-under-requires c κs = search needs
-
 returns-2 : tie.Need-returns-2
 returns-2 c =
     let u = c .before in
@@ -33,9 +30,6 @@ returns-3 c =
     (sym (u .place-under .ensures) ∙ not-false _ (c .before .if2 .left))
     (omega arith))
 
-check-lines-requires : tie.Need-check-lines-requires
-check-lines-requires c κs = search needs
-
 returns-4 : tie.Need-returns-4
 returns-4 c =
     let u = c .before .before .before in
@@ -53,4 +47,10 @@ returns-4 c =
 pub check-arguments-spec : {M : Type 1} → statement M
 check-arguments-spec =
     tie.close
-    (tie.spec returns place-under-requires returns-2 returns-3 check-lines-requires returns-4)
+    (tie.spec
+    returns
+    (λ c κs. search needs)  -- place-under-requires
+    returns-2
+    returns-3
+    (λ c κs. search needs)  -- check-lines-requires
+    returns-4)

@@ -41,18 +41,6 @@ small c =
     let a = c .before .before .before .before .before .args in
     leb-true _ _ (and-eq-true-iff (boundInRange (a .activities)) (thresholdInRange (a .threshold)) .0 (passed c .settings) .1)
 
-bound-and-threshold-in-range-requires : tie.Need-bound-and-threshold-in-range-requires
-bound-and-threshold-in-range-requires c κs = search needs
-
-check-arguments-requires : tie.Need-check-arguments-requires
-check-arguments-requires c κs = search needs
-
-enum-known-refusal : tie.Need-enum-known-refusal
-enum-known-refusal c = search needs
-
-enum-told : tie.Need-enum-told
-enum-told c = search needs
-
 count-cases-requires : tie.Need-count-cases-requires
 count-cases-requires c κs = log c
 
@@ -74,10 +62,10 @@ pub judge-place-spec : {M : Type 1} → statement M
 judge-place-spec =
     tie.close
     (tie.spec
-    bound-and-threshold-in-range-requires
-    check-arguments-requires
-    enum-known-refusal
-    enum-told
+    (λ c κs. search needs)  -- bound-and-threshold-in-range-requires
+    (λ c κs. search needs)  -- check-arguments-requires
+    (λ c. search needs)  -- enum-known-refusal
+    (λ c. search needs)  -- enum-told
     count-cases-requires
     verdict-on-requires
     returns

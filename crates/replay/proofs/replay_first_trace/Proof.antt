@@ -25,21 +25,6 @@ passed c =
 digits : (c : tie.After-enum-told) → FirstDigits (c .before .before .before .before .before .args .text .now)
 digits c = first-digits _ (log-wider (bound-most _ (passed c .settings)) (passed c .log))
 
-bound-in-range-requires : tie.Need-bound-in-range-requires
-bound-in-range-requires c κs = search needs
-
-check-arguments-requires : tie.Need-check-arguments-requires
-check-arguments-requires c κs = search needs
-
-enum-known-refusal : tie.Need-enum-known-refusal
-enum-known-refusal c = search needs
-
-enum-told : tie.Need-enum-told
-enum-told c = search needs
-
-trace-end-requires : tie.Need-trace-end-requires
-trace-end-requires c κs = search needs
-
 sub-replay-trace : tie.Need-sub-replay-trace
 sub-replay-trace c = omega (arith, digits (c .before) .starts, c .trace-end .ensures)
 
@@ -68,11 +53,11 @@ pub replay-first-trace-spec : {M : Type 1} → statement M
 replay-first-trace-spec =
     tie.close
     (tie.spec
-    bound-in-range-requires
-    check-arguments-requires
-    enum-known-refusal
-    enum-told
-    trace-end-requires
+    (λ c κs. search needs)  -- bound-in-range-requires
+    (λ c κs. search needs)  -- check-arguments-requires
+    (λ c. search needs)  -- enum-known-refusal
+    (λ c. search needs)  -- enum-told
+    (λ c κs. search needs)  -- trace-end-requires
     sub-replay-trace
     part-replay-trace-start
     part-replay-trace-end

@@ -15,35 +15,11 @@ Inv-loop text₀ pattern i₀ i-end text i = (length text ≡ length text₀) ×
 abbrev μ-loop : tie.MeasureT-loop
 μ-loop text₀ pattern i₀ i-end text i = i-end - i
 
-returns : tie.Need-returns Inv-loop μ-loop
-returns c = search needs
-
-loop-holds : tie.Need-loop-holds Inv-loop μ-loop
-loop-holds c = omega arith
-
-rem-text : tie.Need-rem-text Inv-loop μ-loop
-rem-text c = omega arith
-
 shared-slice-read-text : tie.Need-shared-slice-read-text Inv-loop μ-loop
 shared-slice-read-text c = mod-lt _ (omega arith)
 
-slice-write-text : tie.Need-slice-write-text Inv-loop μ-loop
-slice-write-text c = omega arith
-
-add-i : tie.Need-add-i Inv-loop μ-loop
-add-i c = omega arith
-
-loop-less : tie.Need-loop-less Inv-loop μ-loop
-loop-less c = omega arith
-
 loop-again : tie.Need-loop-again Inv-loop μ-loop
 loop-again c = (simp length-set (omega arith), omega arith, omega arith, omega arith)
-
-same-length : tie.Need-same-length Inv-loop μ-loop
-same-length c = omega arith
-
-returns-2 : tie.Need-returns-2 Inv-loop μ-loop
-returns-2 c = search needs
 
 pub repeat-spec : {M : Type 1} → statement M
 repeat-spec =
@@ -51,13 +27,13 @@ repeat-spec =
     (tie.spec
     Inv-loop
     μ-loop
-    returns
-    loop-holds
-    rem-text
+    (λ c. search needs)  -- returns
+    (λ c. omega arith)  -- loop-holds
+    (λ c. omega arith)  -- rem-text
     shared-slice-read-text
-    slice-write-text
-    add-i
-    loop-less
+    (λ c. omega arith)  -- slice-write-text
+    (λ c. omega arith)  -- add-i
+    (λ c. omega arith)  -- loop-less
     loop-again
-    same-length
-    returns-2)
+    (λ c. omega arith)  -- same-length
+    (λ c. search needs))  -- returns-2

@@ -19,19 +19,10 @@ abbrev μ-loop : tie.MeasureT-loop
 loop-holds : tie.Need-loop-holds Inv-loop μ-loop
 loop-holds c = refl
 
-shared-slice-read-if1 : tie.Need-shared-slice-read-if1 Inv-loop μ-loop
-shared-slice-read-if1 c = omega arith
-
 returns : tie.Need-returns Inv-loop μ-loop
 returns c =
     let d = c .before .before .before in
     sym (end-here (d .before .args .text .now) (d .loop .at) (c .before .before .loop-test .taken) (c .if1 .taken)) ∙ d .loop .inv
-
-add-at : tie.Need-add-at Inv-loop μ-loop
-add-at c = omega arith
-
-loop-less : tie.Need-loop-less Inv-loop μ-loop
-loop-less c = omega arith
 
 loop-again : tie.Need-loop-again Inv-loop μ-loop
 loop-again c =
@@ -49,9 +40,9 @@ trace-end-spec =
     Inv-loop
     μ-loop
     loop-holds
-    shared-slice-read-if1
+    (λ c. omega arith)  -- shared-slice-read-if1
     returns
-    add-at
-    loop-less
+    (λ c. omega arith)  -- add-at
+    (λ c. omega arith)  -- loop-less
     loop-again
     returns-2)

@@ -9,9 +9,6 @@ use Rattle.event_log.specs.Digits.{digitOf}
 use Rattle.event_log.proofs.hex.classify.Statement.{statement}
 use Rattle.event_log.proofs.hex.classify.Tie as tie
 
-add-t6 : tie.Need-add-t6
-add-t6 c = search needs
-
 returns : tie.Need-returns
 unfolding digitOf
 returns c =
@@ -46,4 +43,12 @@ returns-5 c =
     (le-leb 48 b (omega arith), lt-leb b 57 (omega arith), le-leb 65 b (c .before .if3 .left), lt-leb b 70 (omega arith))
 
 pub classify-spec : {M : Type 1} → statement M
-classify-spec = tie.close (tie.spec add-t6 returns returns-2 returns-3 returns-4 returns-5)
+classify-spec =
+    tie.close
+    (tie.spec
+    (λ c. search needs)  -- add-t6
+    returns
+    returns-2
+    returns-3
+    returns-4
+    returns-5)

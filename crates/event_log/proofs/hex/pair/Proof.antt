@@ -7,24 +7,6 @@ use Rattle.event_log.proofs.PairNumbers.{digit-below, pair-values, pair
 use Rattle.event_log.proofs.hex.pair.Statement.{statement}
 use Rattle.event_log.proofs.hex.pair.Tie as tie
 
-classify-requires : tie.Need-classify-requires
-classify-requires c κs = search needs
-
-enum-told : tie.Need-enum-told
-enum-told c = search needs
-
-enum-known-h : tie.Need-enum-known-h
-enum-known-h c = search needs
-
-classify-requires-2 : tie.Need-classify-requires-2
-classify-requires-2 c κs = search needs
-
-enum-told-2 : tie.Need-enum-told-2
-enum-told-2 c = search needs
-
-enum-known-l : tie.Need-enum-known-l
-enum-known-l c = search needs
-
 mul-t9 : tie.Need-mul-t9
 mul-t9 c =
     let d = c .before .before .before .before .before in
@@ -69,12 +51,12 @@ pub pair-spec : {M : Type 1} → statement M
 pair-spec =
     tie.close
     (tie.spec
-    classify-requires
-    enum-told
-    enum-known-h
-    classify-requires-2
-    enum-told-2
-    enum-known-l
+    (λ c κs. search needs)  -- classify-requires
+    (λ c. search needs)  -- enum-told
+    (λ c. search needs)  -- enum-known-h
+    (λ c κs. search needs)  -- classify-requires-2
+    (λ c. search needs)  -- enum-told-2
+    (λ c. search needs)  -- enum-known-l
     mul-t9
     add-t10
     returns

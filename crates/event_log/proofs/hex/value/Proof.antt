@@ -6,15 +6,6 @@ use Rattle.event_log.specs.Digits.{valueIn}
 use Rattle.event_log.proofs.hex.value.Statement.{statement}
 use Rattle.event_log.proofs.hex.value.Tie as tie
 
-classify-requires : tie.Need-classify-requires
-classify-requires c κs = search needs
-
-enum-known-v : tie.Need-enum-known-v
-enum-known-v c = search needs
-
-enum-told : tie.Need-enum-told
-enum-told c = search needs
-
 returns : tie.Need-returns
 returns c = ap valueIn (sym (c .before .v .given .1) ∙ c .before .before .before .classify .ensures)
 
@@ -22,4 +13,11 @@ returns-2 : tie.Need-returns-2
 returns-2 c = ap valueIn (sym (c .enum-told .given .1) ∙ c .before .before .classify .ensures)
 
 pub value-spec : {M : Type 1} → statement M
-value-spec = tie.close (tie.spec classify-requires enum-known-v enum-told returns returns-2)
+value-spec =
+    tie.close
+    (tie.spec
+    (λ c κs. search needs)  -- classify-requires
+    (λ c. search needs)  -- enum-known-v
+    (λ c. search needs)  -- enum-told
+    returns
+    returns-2)

@@ -6,18 +6,6 @@ use Rattle.event_log.specs.Reading.{nextPhase}
 use Rattle.event_log.proofs.line.advance.Statement.{statement}
 use Rattle.event_log.proofs.line.advance.Tie as tie
 
-enum-told : tie.Need-enum-told
-enum-told c = search needs
-
-enum-told-2 : tie.Need-enum-told-2
-enum-told-2 c = search needs
-
-enum-told-3 : tie.Need-enum-told-3
-enum-told-3 c = search needs
-
-enum-told-4 : tie.Need-enum-told-4
-enum-told-4 c = search needs
-
 returns : tie.Need-returns
 unfolding nextPhase
 returns c = rw (c .before .enum-told .given .1, eq-eqb _ 0 (c .if1 .taken))
@@ -50,10 +38,10 @@ pub advance-spec : {M : Type 1} → statement M
 advance-spec =
     tie.close
     (tie.spec
-    enum-told
-    enum-told-2
-    enum-told-3
-    enum-told-4
+    (λ c. search needs)  -- enum-told
+    (λ c. search needs)  -- enum-told-2
+    (λ c. search needs)  -- enum-told-3
+    (λ c. search needs)  -- enum-told-4
     returns
     returns-2
     returns-3

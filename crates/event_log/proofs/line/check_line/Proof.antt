@@ -60,15 +60,6 @@ readable c =
 returns : tie.Need-returns
 returns c = faulty _ _ _ _ (index-large (c .if1 .taken))
 
-count-at-requires : tie.Need-count-at-requires
-count-at-requires c κs = search needs
-
-enum-known-count : tie.Need-enum-known-count
-enum-known-count c = search needs
-
-enum-told : tie.Need-enum-told
-enum-told c = search needs
-
 returns-2 : tie.Need-returns-2
 returns-2 c =
     let k = c .before .before in
@@ -78,15 +69,6 @@ add-read-activities : tie.Need-add-read-activities
 add-read-activities c =
     let a = c .before .before .before .before .before .before .args in
     omega (arith, count c .four, length-drop (a .from) (a .text .now))
-
-read-activities-requires : tie.Need-read-activities-requires
-read-activities-requires c κs = search needs
-
-enum-known-read : tie.Need-enum-known-read
-enum-known-read c = search needs
-
-enum-told-2 : tie.Need-enum-told-2
-enum-told-2 c = search needs
 
 returns-3 : tie.Need-returns-3
 returns-3 c =
@@ -101,9 +83,6 @@ sub-if2 c = omega (arith, shape c .ends)
 
 returns-4 : tie.Need-returns-4
 returns-4 c = let d = c .before in faulty _ _ _ _ (line-malformed (few d) (shape-short (shape d) (omega arith)))
-
-sub-if3 : tie.Need-sub-if3
-sub-if3 c = search needs
 
 returns-5 : tie.Need-returns-5
 returns-5 c =
@@ -146,18 +125,18 @@ check-line-spec =
     tie.close
     (tie.spec
     returns
-    count-at-requires
-    enum-known-count
-    enum-told
+    (λ c κs. search needs)  -- count-at-requires
+    (λ c. search needs)  -- enum-known-count
+    (λ c. search needs)  -- enum-told
     returns-2
     add-read-activities
-    read-activities-requires
-    enum-known-read
-    enum-told-2
+    (λ c κs. search needs)  -- read-activities-requires
+    (λ c. search needs)  -- enum-known-read
+    (λ c. search needs)  -- enum-told-2
     returns-3
     sub-if2
     returns-4
-    sub-if3
+    (λ c. search needs)  -- sub-if3
     returns-5
     returns-6
     returns-7

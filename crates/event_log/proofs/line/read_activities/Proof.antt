@@ -22,43 +22,16 @@ abbrev μ-loop : tie.MeasureT-loop
 loop-holds : tie.Need-loop-holds Inv-loop μ-loop
 loop-holds c = refl
 
-shared-slice-read-if1 : tie.Need-shared-slice-read-if1 Inv-loop μ-loop
-shared-slice-read-if1 c = omega arith
-
-is-misplaced-requires : tie.Need-is-misplaced-requires Inv-loop μ-loop
-is-misplaced-requires c κs = search needs
-
 returns : tie.Need-returns Inv-loop μ-loop
 returns c =
     let t = c .before .before .before in
     rw (c .is-misplaced .ensures)
     (sym (scan-feed _ _ _ _ _ (t .loop-test .taken) (c .before .if1 .taken)) ∙ t .before .loop .inv ∙ scan-first _ _ _)
 
-sub-if2 : tie.Need-sub-if2 Inv-loop μ-loop
-sub-if2 c = omega arith
-
 returns-2 : tie.Need-returns-2 Inv-loop μ-loop
 returns-2 c =
     let t = c .before .before .before in
     sym (scan-short _ _ _ _ _ (t .loop-test .taken) (c .if2 .taken) (c .before .if1 .left)) ∙ t .before .loop .inv ∙ scan-first _ _ _
-
-shared-slice-read-pair : tie.Need-shared-slice-read-pair Inv-loop μ-loop
-shared-slice-read-pair c = omega arith
-
-add-pair : tie.Need-add-pair Inv-loop μ-loop
-add-pair c = omega arith
-
-shared-slice-read-pair-2 : tie.Need-shared-slice-read-pair-2 Inv-loop μ-loop
-shared-slice-read-pair-2 c = omega arith
-
-pair-requires : tie.Need-pair-requires Inv-loop μ-loop
-pair-requires c κs = search needs
-
-enum-known-digits : tie.Need-enum-known-digits Inv-loop μ-loop
-enum-known-digits c = search needs
-
-enum-told : tie.Need-enum-told Inv-loop μ-loop
-enum-told c = search needs
 
 returns-3 : tie.Need-returns-3 Inv-loop μ-loop
 returns-3 c =
@@ -67,15 +40,6 @@ returns-3 c =
     sym (scan-others _ _ _ _ _ (omega arith) (d .if1 .left) (sym (p .pair .ensures) ∙ c .enum-told .given .1))
     ∙ d .before .before .before .loop .inv
     ∙ scan-first _ _ _
-
-advance-requires : tie.Need-advance-requires Inv-loop μ-loop
-advance-requires c κs = search needs
-
-add-at : tie.Need-add-at Inv-loop μ-loop
-add-at c = omega arith
-
-loop-less : tie.Need-loop-less Inv-loop μ-loop
-loop-less c = omega arith
 
 loop-again : tie.Need-loop-again Inv-loop μ-loop
 loop-again c =
@@ -95,20 +59,20 @@ read-activities-spec =
     Inv-loop
     μ-loop
     loop-holds
-    shared-slice-read-if1
-    is-misplaced-requires
+    (λ c. omega arith)  -- shared-slice-read-if1
+    (λ c κs. search needs)  -- is-misplaced-requires
     returns
-    sub-if2
+    (λ c. omega arith)  -- sub-if2
     returns-2
-    shared-slice-read-pair
-    add-pair
-    shared-slice-read-pair-2
-    pair-requires
-    enum-known-digits
-    enum-told
+    (λ c. omega arith)  -- shared-slice-read-pair
+    (λ c. omega arith)  -- add-pair
+    (λ c. omega arith)  -- shared-slice-read-pair-2
+    (λ c κs. search needs)  -- pair-requires
+    (λ c. search needs)  -- enum-known-digits
+    (λ c. search needs)  -- enum-told
     returns-3
-    advance-requires
-    add-at
-    loop-less
+    (λ c κs. search needs)  -- advance-requires
+    (λ c. omega arith)  -- add-at
+    (λ c. omega arith)  -- loop-less
     loop-again
     returns-4)

@@ -18,12 +18,6 @@ abbrev μ-loop : tie.MeasureT-loop
 loop-holds : tie.Need-loop-holds Inv-loop μ-loop
 loop-holds c = all-left (c .before .args .place) (c .before .args .text .now) (c .before .pre)
 
-add-start : tie.Need-add-start Inv-loop μ-loop
-add-start c = omega arith
-
-trace-end-requires : tie.Need-trace-end-requires Inv-loop μ-loop
-trace-end-requires c κs = search needs
-
 -- the frame at the loop's index, once its end is found
 here : (c : tie.After-trace-end Inv-loop μ-loop)
     → let l = c .before .before .loop in
@@ -45,9 +39,6 @@ part-replay-trace-end c = omega (arith, here c .ends)
 
 replay-trace-requires : tie.Need-replay-trace-requires Inv-loop μ-loop
 replay-trace-requires c κs = here (c .before) .short
-
-cases-at-requires : tie.Need-cases-at-requires Inv-loop μ-loop
-cases-at-requires c κs = search needs
 
 add-cases-requires : tie.Need-add-cases-requires Inv-loop μ-loop
 add-cases-requires c κs = rw (c .cases-at .ensures) (here (c .before .before .before) .fits)
@@ -78,13 +69,13 @@ count-cases-spec =
     Inv-loop
     μ-loop
     loop-holds
-    add-start
-    trace-end-requires
+    (λ c. omega arith)  -- add-start
+    (λ c κs. search needs)  -- trace-end-requires
     sub-replay-trace
     part-replay-trace-start
     part-replay-trace-end
     replay-trace-requires
-    cases-at-requires
+    (λ c κs. search needs)  -- cases-at-requires
     add-cases-requires
     add-at
     loop-less

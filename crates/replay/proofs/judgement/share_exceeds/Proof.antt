@@ -11,12 +11,14 @@ use Rattle.replay.proofs.judgement.share_exceeds.Tie as tie
 mul-result : tie.Need-mul-result
 mul-result c = omega (arith, mul-le-mul-right (c .args .total) (c .pre .0))
 
-mul-result-2 : tie.Need-mul-result-2
-mul-result-2 c = search needs
-
 returns : tie.Need-returns
 unfolding exceeds
 returns c = refl
 
 pub share-exceeds-spec : {M : Type 1} → statement M
-share-exceeds-spec = tie.close (tie.spec mul-result mul-result-2 returns)
+share-exceeds-spec =
+    tie.close
+    (tie.spec
+    mul-result
+    (λ c. search needs)  -- mul-result-2
+    returns)

@@ -7,27 +7,6 @@ use Rattle.replay.specs.Replaying.{casesOf}
 use Rattle.replay.proofs.judgement.verdict_on.Statement.{statement}
 use Rattle.replay.proofs.judgement.verdict_on.Tie as tie
 
-add-total : tie.Need-add-total
-add-total c = search needs
-
-add-total-2 : tie.Need-add-total-2
-add-total-2 c = search needs
-
-add-total-3 : tie.Need-add-total-3
-add-total-3 c = search needs
-
-add-share-exceeds : tie.Need-add-share-exceeds
-add-share-exceeds c = search needs
-
-share-exceeds-requires : tie.Need-share-exceeds-requires
-share-exceeds-requires c κs = search needs
-
-add-share-exceeds-2 : tie.Need-add-share-exceeds-2
-add-share-exceeds-2 c = search needs
-
-share-exceeds-requires-2 : tie.Need-share-exceeds-requires-2
-share-exceeds-requires-2 c κs = search needs
-
 -- the verdict by the two shares as they were compared
 compared : (d : tie.After-share-exceeds2)
     → let a = d .before .before .before .before .before .before .before .args in
@@ -52,13 +31,13 @@ pub verdict-on-spec : {M : Type 1} → statement M
 verdict-on-spec =
     tie.close
     (tie.spec
-    add-total
-    add-total-2
-    add-total-3
-    add-share-exceeds
-    share-exceeds-requires
-    add-share-exceeds-2
-    share-exceeds-requires-2
+    (λ c. search needs)  -- add-total
+    (λ c. search needs)  -- add-total-2
+    (λ c. search needs)  -- add-total-3
+    (λ c. search needs)  -- add-share-exceeds
+    (λ c κs. search needs)  -- share-exceeds-requires
+    (λ c. search needs)  -- add-share-exceeds-2
+    (λ c κs. search needs)  -- share-exceeds-requires-2
     returns
     returns-2
     returns-3

@@ -5,22 +5,10 @@ use Rattle.replay.proofs.EventBits.{taken-fits, given-fits, least-stays
 use Rattle.replay.proofs.trace.replay_event.Statement.{statement}
 use Rattle.replay.proofs.trace.replay_event.Tie as tie
 
-shr-taken : tie.Need-shr-taken
-shr-taken c = search needs
-
-cast-taken : tie.Need-cast-taken
-cast-taken c = search needs
-
 sub-taken : tie.Need-sub-taken
 sub-taken c =
     let d = c .before .before .before in
     taken-fits (d .args .place) (d .args .tokens) (d .args .code) (d .pre .1)
-
-shr-balance : tie.Need-shr-balance
-shr-balance c = search needs
-
-cast-balance : tie.Need-cast-balance
-cast-balance c = search needs
 
 add-balance : tie.Need-add-balance
 add-balance c =
@@ -41,11 +29,11 @@ pub replay-event-spec : {M : Type 1} → statement M
 replay-event-spec =
     tie.close
     (tie.spec
-    shr-taken
-    cast-taken
+    (λ c. search needs)  -- shr-taken
+    (λ c. search needs)  -- cast-taken
     sub-taken
-    shr-balance
-    cast-balance
+    (λ c. search needs)  -- shr-balance
+    (λ c. search needs)  -- cast-balance
     add-balance
     returns
     returns-2)

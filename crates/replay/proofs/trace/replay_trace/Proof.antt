@@ -30,22 +30,10 @@ abbrev μ-loop : tie.MeasureT-loop
 loop-holds : tie.Need-loop-holds Inv-loop μ-loop
 loop-holds c = (lit≤ tt, lit< tt, refl)
 
-shared-slice-read-value : tie.Need-shared-slice-read-value Inv-loop μ-loop
-shared-slice-read-value c = omega arith
-
-value-requires : tie.Need-value-requires Inv-loop μ-loop
-value-requires c κs = search needs
-
 replay-event-requires : tie.Need-replay-event-requires Inv-loop μ-loop
 replay-event-requires c κs =
     let code : c .value .result < 16 = rw (c .value .ensures) (value-small _) in
     (code, omega arith)
-
-add-at : tie.Need-add-at Inv-loop μ-loop
-add-at c = omega arith
-
-loop-less : tie.Need-loop-less Inv-loop μ-loop
-loop-less c = omega arith
 
 loop-again : tie.Need-loop-again Inv-loop μ-loop
 loop-again c =
@@ -74,10 +62,10 @@ replay-trace-spec =
     Inv-loop
     μ-loop
     loop-holds
-    shared-slice-read-value
-    value-requires
+    (λ c. omega arith)  -- shared-slice-read-value
+    (λ c κs. search needs)  -- value-requires
     replay-event-requires
-    add-at
-    loop-less
+    (λ c. omega arith)  -- add-at
+    (λ c. omega arith)  -- loop-less
     loop-again
     returns)
