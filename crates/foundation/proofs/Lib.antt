@@ -1,7 +1,2 @@
-pub mod Booleans
-pub mod Lists
-pub mod Each
-pub mod Sums
-pub mod Integers
-pub mod Differences
 pub mod Examples
+pub mod laws

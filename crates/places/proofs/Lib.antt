@@ -1,5 +1,3 @@
 pub mod Opened
-pub mod Bounds
 pub mod Examples
-pub mod Irreflexive
-pub mod Lighter
+pub mod laws

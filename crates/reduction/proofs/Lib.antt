@@ -1,3 +1,3 @@
 pub mod Opened
 pub mod Examples
-pub mod NoUnion
+pub mod laws

@@ -1,13 +1,3 @@
 pub mod Opened
-pub mod Extremes
-pub mod Counts
-pub mod Monotone
-pub mod EventBits
-pub mod EventByEvent
-pub mod CodeDigits
-pub mod FrameByFrame
-pub mod FramesLeft
-pub mod Arguments
-pub mod FirstFrame
-pub mod AnswerLaws
 pub mod Examples
+pub mod laws

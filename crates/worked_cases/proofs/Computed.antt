@@ -14,7 +14,7 @@ use Rattle.replay.specs.Judgement.{verdict}
 use Rattle.discovery.specs.declared.Discovered.the-variants.{Ran, Refused}
 use Rattle.discovery.specs.Search.{Progress, holding, stateOf}
 use Rattle.discovery.specs.Discovery.{run, runRefusal, summary, discovered}
-use Rattle.discovery.proofs.LargerCache.{larger-cache}
+use Rattle.discovery.proofs.laws.LargerCache.{larger-cache}
 use Rattle.report.proofs.Opened.{opened}
 use Rattle.worked_cases.specs.WorkedCases.{settings, single, LargeCache, WorkedCases}
 

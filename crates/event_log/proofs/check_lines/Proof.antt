@@ -9,7 +9,7 @@ use lib.ListN.{length, drop}
 use Rattle.event_log.specs.Frames.{mostFrames}
 use Rattle.event_log.specs.Lines.{lines, firstLine}
 use Rattle.event_log.specs.Reading.{linesChecked}
-use Rattle.event_log.proofs.LogPass.{pass, pass-all, at-end, at-faulty, at-sound, SoundLine, sound-line}
+use Rattle.event_log.proofs.laws.LogPass.{pass, pass-all, at-end, at-faulty, at-sound, SoundLine, sound-line}
 use Rattle.event_log.proofs.check_lines.Statement.{statement}
 use Rattle.event_log.proofs.check_lines.Tie as tie
 

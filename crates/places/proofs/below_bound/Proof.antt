@@ -2,7 +2,7 @@
 -- Assumes nothing.
 use borrow.Author.Needs.{needs}
 use borrow.Author.Tests.{le-leb}
-use Rattle.places.proofs.Bounds.{below-sixteen, below-shift}
+use Rattle.places.proofs.laws.Bounds.{below-sixteen, below-shift}
 use Rattle.places.proofs.below_bound.Statement.{statement}
 use Rattle.places.proofs.below_bound.Tie as tie
 

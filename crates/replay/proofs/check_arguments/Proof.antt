@@ -4,7 +4,7 @@ use mathlib.Core.Path.{sym, _∙_}
 use native.Mathlib.Omega.{arith}
 use borrow.Author.Needs.{needs}
 use borrow.Author.Tests.{not-true, not-false}
-use Rattle.replay.proofs.Arguments.{setting-refused, place-refused, empty-refused, lines-decided}
+use Rattle.replay.proofs.laws.Arguments.{setting-refused, place-refused, empty-refused, lines-decided}
 use Rattle.replay.proofs.check_arguments.Statement.{statement}
 use Rattle.replay.proofs.check_arguments.Tie as tie
 

@@ -9,10 +9,10 @@ use borrow.Author.Tests.{leb-true}
 use Rattle.limits.specs.Settings.{mostActivities, boundInRange, thresholdInRange}
 use Rattle.event_log.specs.Frames.{WrittenLog}
 use Rattle.event_log.specs.Lines.{framesOf}
-use Rattle.event_log.proofs.Written.{bound-most}
-use Rattle.event_log.proofs.WiderBound.{log-wider}
-use Rattle.replay.proofs.Arguments.{Passed, accepted, judge-refused, judge-accepted}
-use Rattle.replay.proofs.FrameByFrame.{verdict-counted, counts-bounded}
+use Rattle.event_log.proofs.laws.Written.{bound-most}
+use Rattle.event_log.proofs.laws.WiderBound.{log-wider}
+use Rattle.replay.proofs.laws.Arguments.{Passed, accepted, judge-refused, judge-accepted}
+use Rattle.replay.proofs.laws.FrameByFrame.{verdict-counted, counts-bounded}
 use Rattle.replay.proofs.judge_place.Statement.{statement}
 use Rattle.replay.proofs.judge_place.Tie as tie
 

@@ -6,11 +6,11 @@ use native.Mathlib.Omega.{arith}
 use mir.Syntax.{w16}
 use mir.ValLaws.{toZ-ofZ}
 use borrow.Author.Needs.{needs}
-use Rattle.event_log.proofs.Written.{bound-most}
-use Rattle.event_log.proofs.WiderBound.{log-wider}
+use Rattle.event_log.proofs.laws.Written.{bound-most}
+use Rattle.event_log.proofs.laws.WiderBound.{log-wider}
 use Rattle.limits.specs.Settings.{boundInRange}
-use Rattle.replay.proofs.Arguments.{Passed, accepted, replay-refused, replay-accepted}
-use Rattle.replay.proofs.FirstFrame.{FirstDigits, first-digits}
+use Rattle.replay.proofs.laws.Arguments.{Passed, accepted, replay-refused, replay-accepted}
+use Rattle.replay.proofs.laws.FirstFrame.{FirstDigits, first-digits}
 use Rattle.replay.proofs.replay_first_trace.Statement.{statement}
 use Rattle.replay.proofs.replay_first_trace.Tie as tie
 

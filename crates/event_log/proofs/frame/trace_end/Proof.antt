@@ -6,7 +6,7 @@ use native.Mathlib.Omega.{arith}
 use mathlib.Core.Path.{_≡_, refl, sym, _∙_}
 use lib.ListN.{length}
 use Rattle.event_log.specs.Stepping.{traceEnd}
-use Rattle.event_log.proofs.FrameSteps.{end-here, end-later, end-past}
+use Rattle.event_log.proofs.laws.FrameSteps.{end-here, end-later, end-past}
 use Rattle.event_log.proofs.frame.trace_end.Statement.{statement}
 use Rattle.event_log.proofs.frame.trace_end.Tie as tie
 

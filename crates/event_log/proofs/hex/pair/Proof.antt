@@ -3,7 +3,7 @@
 use borrow.Author.Needs.{needs}
 use mathlib.Core.Path.{sym, _∙_}
 use native.Mathlib.Omega.{arith}
-use Rattle.event_log.proofs.PairNumbers.{digit-below, pair-values, pair-high, pair-low}
+use Rattle.event_log.proofs.laws.PairNumbers.{digit-below, pair-values, pair-high, pair-low}
 use Rattle.event_log.proofs.hex.pair.Statement.{statement}
 use Rattle.event_log.proofs.hex.pair.Tie as tie
 

@@ -4,7 +4,7 @@ use mathlib.Core.Path.{sym, _∙_}
 use native.Mathlib.Omega.{arith}
 use borrow.Author.Needs.{needs}
 use lib.ListN.{length-drop}
-use Rattle.event_log.proofs.Counts.{count-short, count-first-others, count-second-others, count-zero, count-cases, four-from}
+use Rattle.event_log.proofs.laws.Counts.{count-short, count-first-others, count-second-others, count-zero, count-cases, four-from}
 use Rattle.event_log.proofs.line.count_at.Statement.{statement}
 use Rattle.event_log.proofs.line.count_at.Tie as tie
 

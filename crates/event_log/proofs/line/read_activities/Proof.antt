@@ -8,7 +8,7 @@ use native.Mathlib.Omega.{arith}
 use borrow.Author.Needs.{needs}
 use lib.ListN.{length, drop}
 use Rattle.event_log.specs.declared.Phase.the-variants.{Before}
-use Rattle.event_log.proofs.Scan.{scan, scan-first, scan-end, scan-feed, scan-short, scan-others, scan-number}
+use Rattle.event_log.proofs.laws.Scan.{scan, scan-first, scan-end, scan-feed, scan-short, scan-others, scan-number}
 use Rattle.event_log.proofs.line.read_activities.Statement.{statement}
 use Rattle.event_log.proofs.line.read_activities.Tie as tie
 

@@ -5,7 +5,7 @@ use Prim.Native.Nat.{_+_, _-_}
 use native.Mathlib.Omega.{arith}
 use borrow.Author.Needs.{needs}
 use lib.ListN.{length}
-use Rattle.replay.proofs.FramesLeft.{SomeLeft, Turn, all-left, none-left, turn}
+use Rattle.replay.proofs.laws.FramesLeft.{SomeLeft, Turn, all-left, none-left, turn}
 use Rattle.replay.proofs.judgement.count_cases.Statement.{statement}
 use Rattle.replay.proofs.judgement.count_cases.Tie as tie
 

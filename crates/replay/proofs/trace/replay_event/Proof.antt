@@ -1,7 +1,7 @@
 -- `replay::trace::replay_event` meets its contract: its numbers fit 16 bits, so the bits read back are the definition's integers.
 -- Assumes nothing.
 use borrow.Author.Needs.{needs}
-use Rattle.replay.proofs.EventBits.{taken-fits, given-fits, least-stays, least-falls}
+use Rattle.replay.proofs.laws.EventBits.{taken-fits, given-fits, least-stays, least-falls}
 use Rattle.replay.proofs.trace.replay_event.Statement.{statement}
 use Rattle.replay.proofs.trace.replay_event.Tie as tie
 

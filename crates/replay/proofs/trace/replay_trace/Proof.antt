@@ -10,11 +10,11 @@ use lib.ListN.{length, drop, getD}
 use lib.Signed.{mag}
 use Rattle.foundation.specs.Lists.{foldl}
 use Rattle.event_log.specs.Digits.{digitValue}
-use Rattle.event_log.proofs.DigitLaws.{value-small}
+use Rattle.event_log.proofs.laws.DigitLaws.{value-small}
 use Rattle.replay.specs.Replaying.{afterEvent, codesIn}
-use Rattle.replay.proofs.EventBits.{mag-event}
-use Rattle.replay.proofs.EventByEvent.{noTokens, event-by-event}
-use Rattle.replay.proofs.CodeDigits.{codes-next, codes-end}
+use Rattle.replay.proofs.laws.EventBits.{mag-event}
+use Rattle.replay.proofs.laws.EventByEvent.{noTokens, event-by-event}
+use Rattle.replay.proofs.laws.CodeDigits.{codes-next, codes-end}
 use Rattle.replay.proofs.trace.replay_trace.Statement.{statement}
 use Rattle.replay.proofs.trace.replay_trace.Tie as tie
 

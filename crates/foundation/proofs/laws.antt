@@ -1,0 +1,6 @@
+pub mod Booleans
+pub mod Lists
+pub mod Each
+pub mod Sums
+pub mod Integers
+pub mod Differences

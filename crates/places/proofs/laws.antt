@@ -1,0 +1,3 @@
+pub mod Bounds
+pub mod Irreflexive
+pub mod Lighter

@@ -1,0 +1,28 @@
+-- A set names no code of A or more exactly when nothing is left of it after a shift by A; a 16-bit set names none of 16 or more.
+-- Assumes nothing.
+use Prim.Native.Nat.{ℕ, _<_, _≤_, _/_, _^_}
+use mathlib.Core.Path.{_≡_, refl, sym, _∙_}
+use mathlib.Core.Bool.{true}
+use native.Mathlib.Omega.{arith}
+use native.Mathlib.Nat.{div-eq-of-lt, div-lt-iff-lt-mul, one-mul, lt-of-lt-of-le}
+use borrow.Author.Tests.{lt-ltb, le-ltb, ltb-true, ltb-false, eq-eqb, ne-eqb}
+use lib.Dec.{eqb, ltb}
+use lib.Pow.{pow-pos, pow-mono}
+use Rattle.foundation.proofs.laws.Booleans.{by-test}
+use Rattle.places.specs.Places.{below}
+
+pub below-sixteen : (A s : ℕ) → 16 ≤ A → s < 2 ^ 16 → below A s ≡ true
+unfolding below
+below-sixteen A s wide small = lt-ltb s (2 ^ A) (lt-of-lt-of-le small (pow-mono wide))
+
+-- nothing is left of it: it is below the power
+left-nothing : (A s : ℕ) → s / 2 ^ A < 1 → s < 2 ^ A
+left-nothing A s h = rw one-mul at (div-lt-iff-lt-mul (pow-pos A) .0 h)
+
+pub below-shift : (A s : ℕ) → eqb (s / 2 ^ A) 0 ≡ below A s
+unfolding below
+below-shift A s =
+    by-test
+    (ltb s (2 ^ A))
+    (λ e. rw (e, div-eq-of-lt (ltb-true s (2 ^ A) e)))
+    (λ e. rw e (ne-eqb (s / 2 ^ A) 0 (λ (z : s / 2 ^ A ≡ 0). omega (arith, left-nothing A s (omega arith), ltb-false s (2 ^ A) e))))

@@ -1,0 +1,11 @@
+pub mod Extremes
+pub mod Counts
+pub mod Monotone
+pub mod EventBits
+pub mod EventByEvent
+pub mod CodeDigits
+pub mod FrameByFrame
+pub mod FramesLeft
+pub mod Arguments
+pub mod FirstFrame
+pub mod AnswerLaws
