@@ -8,14 +8,23 @@ use mathlib.Core.Option.{none, some}
 use lib.Dec.{lit<, lit≤}
 use lib.ListN.{replicate}
 use Rattle.foundation.specs.Text.{bytes}
-use Rattle.foundation.specs.Lists.{each-nil, each-cons}
+use Rattle.foundation.specs.Lists.{each-nil, each-cons, foldl}
 use Rattle.limits.specs.declared.Refusal.the-variants.{InvalidSetting, MalformedFrame, UnknownActivity, MisplacedEndpoint, TooLarge, EmptyLog}
 use Rattle.event_log.specs.declared.Checked.the-variants.{Accepted, Refused}
+use Rattle.event_log.specs.declared.Activities.the-variants.{Read}
+use Rattle.event_log.specs.declared.Activities.the-variants as ActivitiesAs
+use Rattle.event_log.specs.declared.Count.the-variants.{Cases}
+use Rattle.event_log.specs.declared.Count.the-variants as CountAs
 use Rattle.event_log.specs.declared.Digit.the-variants.{Value, NonDigit}
-use Rattle.event_log.specs.Digits.{digitOf, readHex, writeHex}
+use Rattle.event_log.specs.declared.LineChecked.the-variants.{Sound, Faulty}
+use Rattle.event_log.specs.declared.Pair.the-variants.{Number, NonDigits}
+use Rattle.event_log.specs.declared.Phase.the-variants.{Before, Inside, Complete, Misplaced}
+use Rattle.event_log.specs.Digits.{digitOf, readHex, pairOf, writeHex}
 use Rattle.event_log.specs.Frames.{Frame, writeFrame, WrittenLog}
-use Rattle.event_log.specs.Lines.{lines, framesOf}
+use Rattle.event_log.specs.Lines.{lines, firstLine, framesOf}
 use Rattle.event_log.specs.Checking.{lineFault, checked}
+use Rattle.event_log.specs.Reading.{countIn, nextPhase, activitiesIn, lineChecked}
+use Rattle.event_log.specs.Stepping.{casesAt, traceEnd}
 use Rattle.event_log.proofs.Opened.{opened}
 
 pub record DigitExamples : Type 0 where
@@ -75,6 +84,51 @@ pub record FaultExamples : Type 0 where
   pub last-line : lineFault 2 4095 (record { bytes = bytes "00010001"; ended = true }) ≡ none
   pub line-too-many : lineFault 2 4096 (record { bytes = []; ended = false }) ≡ some (TooLarge 4096)
   pub first-faulty-line : checked 6 (bytes "00010001\n00010100\n0000\n") ≡ Refused (MisplacedEndpoint 1)
+
+-- the steps of reading a line, and of stepping through a checked log
+pub record StepExamples : Type 0 where
+  pub pair : pairOf 49 70 ≡ Number 31
+  pub no-pair : pairOf 49 10 ≡ NonDigits
+  pub count : countIn (bytes "01FA00") ≡ Cases 506
+  pub count-zero : countIn (bytes "000001") ≡ CountAs.Malformed
+  pub count-short : countIn (bytes "01F") ≡ CountAs.Malformed
+  pub complete : foldl nextPhase Before (0 ∷ 2 ∷ 5 ∷ 1 ∷ []) ≡ Complete
+  pub unended : foldl nextPhase Before (0 ∷ 2 ∷ 5 ∷ []) ≡ Inside
+  pub ended-twice : foldl nextPhase Before (0 ∷ 1 ∷ 1 ∷ []) ≡ Misplaced
+  pub started-twice : foldl nextPhase Before (0 ∷ 0 ∷ 1 ∷ []) ≡ Misplaced
+  pub activities : activitiesIn 6 4 (firstLine (bytes "000201\n0001")) ≡ Read 10 false false
+  pub unknown : activitiesIn 2 4 (firstLine (bytes "000200\n")) ≡ Read 10 true true
+  pub odd : activitiesIn 6 4 (firstLine (bytes "00020\n")) ≡ ActivitiesAs.Malformed
+  pub sound : lineChecked 6 3 20 (firstLine (bytes "01FA0001\n")) ≡ Sound 29 506
+  pub faulty : lineChecked 6 3 20 (firstLine (bytes "01FA0101\n")) ≡ Faulty (MisplacedEndpoint 3)
+  pub cases : casesAt (bytes "00010001\n01FA0001\n") 9 ≡ 506
+  pub no-cases : casesAt (bytes "00010001\n01F") 9 ≡ 0
+  pub end : traceEnd (bytes "00010001\n01FA0001\n") 13 ≡ 17
+  pub no-end : traceEnd (bytes "00010") 4 ≡ 6
+
+pub step-examples : StepExamples
+unfolding opened
+step-examples =
+    record {
+      pair = refl;
+      no-pair = refl;
+      count = refl;
+      count-zero = refl;
+      count-short = refl;
+      complete = refl;
+      unended = refl;
+      ended-twice = refl;
+      started-twice = refl;
+      activities = refl;
+      unknown = refl;
+      odd = refl;
+      sound = refl;
+      faulty = refl;
+      cases = refl;
+      no-cases = refl;
+      end = refl;
+      no-end = refl;
+    }
 
 pub digit-examples : DigitExamples
 unfolding opened

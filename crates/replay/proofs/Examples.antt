@@ -5,21 +5,24 @@ use Prim.Native.Nat.{ℕ}
 use mathlib.Core.Path.{_≡_, refl}
 use mathlib.Core.Bool.{true, false}
 use mathlib.Core.List.{List, [], _∷_, map}
-use lib.IntN.{pos, negsuc}
+use lib.IntN.{ℤ, pos, negsuc}
 use Rattle.foundation.specs.Text.{bytes}
 use Rattle.limits.specs.declared.Refusal.the-variants.{InvalidSetting, MalformedFrame, EmptyLog, InvalidPlace}
 use Rattle.places.specs.declared.Place.{Place}
 use Rattle.places.specs.Places.{place}
 use Rattle.places.proofs.Examples.{figure1}
+use Rattle.event_log.specs.declared.Checked.the-variants as CheckedAs
 use Rattle.event_log.specs.Frames.{totalCases}
 use Rattle.event_log.specs.Lines.{framesOf}
 use Rattle.event_log.proofs.Examples.{figure1Log}
 use Rattle.replay.specs.declared.CaseCounts.{CaseCounts}
 use Rattle.replay.specs.declared.Judged.the-variants as JudgedAs
 use Rattle.replay.specs.declared.Replayed.the-variants as ReplayedAs
+use Rattle.replay.specs.declared.Tokens.{Tokens}
 use Rattle.replay.specs.declared.Verdict.{Verdict}
 use Rattle.replay.specs.declared.Verdict.the-variants.{Fitting, Underfed, Overfed, Both}
 use Rattle.replay.specs.Balance.{balanceAt, leastBalance, lastBalance, underfeeds, overfeeds}
+use Rattle.replay.specs.Replaying.{argumentsChecked, afterEvent, codesIn, withCases}
 use Rattle.replay.specs.Judgement.{caseCounts, exceeds, verdictWhere, verdictOf, verdict}
 use Rattle.replay.specs.Answers.{replayed, judged}
 use Rattle.replay.proofs.Opened.{opened}
@@ -89,6 +92,40 @@ pub record AnswerExamples : Type 0 where
   pub judged-no-place : judged 2 0 [] (place 0x0001 0x0004) ≡ JudgedAs.Refused (InvalidPlace 0)
   pub judged-place : judged 5 175 figure3Log (place 0x0001 0x0004) ≡ JudgedAs.Counted (counts 31 17 49 0) Both
   pub judged-higher : judged 5 176 figure3Log (place 0x0001 0x0004) ≡ JudgedAs.Counted (counts 31 17 49 0) Overfed
+
+abbrev tokens : ℤ → ℤ → Tokens
+tokens balance least = record { balance = balance; least = least }
+
+-- the steps of replaying and judging
+pub record StepExamples : Type 0 where
+  pub codes : codesIn (bytes "00020F01") ≡ 0 ∷ 2 ∷ 15 ∷ 1 ∷ []
+  pub takes-first : afterEvent (place 0x0004 0x0004) (tokens (pos 0) (pos 0)) 2 ≡ tokens (pos 0) (negsuc 0)
+  pub gives : afterEvent (place 0x0004 0x0008) (tokens (pos 2) (negsuc 0)) 2 ≡ tokens (pos 3) (negsuc 0)
+  pub not-touched : afterEvent (place 0x0004 0x0008) (tokens (pos 2) (negsuc 0)) 5 ≡ tokens (pos 2) (negsuc 0)
+  pub fits : withCases (counts 1 2 3 4) (tokens (pos 0) (pos 0)) 10 ≡ counts 11 2 3 4
+  pub underfeeds-only : withCases (counts 1 2 3 4) (tokens (negsuc 0) (negsuc 0)) 10 ≡ counts 1 12 3 4
+  pub overfeeds-only : withCases (counts 1 2 3 4) (tokens (pos 1) (pos 0)) 10 ≡ counts 1 2 13 4
+  pub does-both : withCases (counts 1 2 3 4) (tokens (pos 1) (negsuc 0)) 10 ≡ counts 1 2 3 14
+  pub arguments : argumentsChecked 3 true (bytes "00020001\n") (place 0x0001 0x0002) ≡ CheckedAs.Accepted 1 2
+  pub arguments-setting : argumentsChecked 3 false [] (place 0x0000 0x0002) ≡ CheckedAs.Refused InvalidSetting
+  pub arguments-place : argumentsChecked 3 true [] (place 0x0000 0x0002) ≡ CheckedAs.Refused (InvalidPlace 0)
+
+pub step-examples : StepExamples
+unfolding opened
+step-examples =
+    record {
+      codes = refl;
+      takes-first = refl;
+      gives = refl;
+      not-touched = refl;
+      fits = refl;
+      underfeeds-only = refl;
+      overfeeds-only = refl;
+      does-both = refl;
+      arguments = refl;
+      arguments-setting = refl;
+      arguments-place = refl;
+    }
 
 pub trace-examples : TraceExamples
 unfolding opened
