@@ -1,7 +1,7 @@
 -- `replay::replay_first_trace` meets its contract: it refuses what the arguments' checks refuse. Where they pass, the text is a log, and its first
 -- frame's digits are handed on as the part between the count and the line feed.
 -- Assumes nothing.
-use mathlib.Core.Path.{sym, _∙_}
+use mathlib.Core.Path.{sym, ap₂, _∙_}
 use native.Mathlib.Omega.{arith}
 use mir.Syntax.{w16}
 use mir.ValLaws.{toZ-ofZ}
@@ -9,6 +9,7 @@ use borrow.Author.Needs.{needs}
 use Rattle.event_log.proofs.laws.Written.{bound-most}
 use Rattle.event_log.proofs.laws.WiderBound.{log-wider}
 use Rattle.limits.specs.Settings.{boundInRange}
+use Rattle.replay.specs.declared.Replayed.the-variants.{Balances}
 use Rattle.replay.proofs.laws.Arguments.{Passed, accepted, replay-refused, replay-accepted}
 use Rattle.replay.proofs.laws.FirstFrame.{FirstDigits, first-digits}
 use Rattle.replay.proofs.replay_first_trace.Statement.{statement}
@@ -46,8 +47,9 @@ returns-2 : tie.Need-returns-2
 returns-2 c =
     let t = c .before in
     let e = t .before .before in
-    rw (toZ-ofZ w16 (t .replay-trace .result .least) (search needs), toZ-ofZ w16 (t .replay-trace .result .balance) (search needs))
-    (rw (t .replay-trace .ensures, e .trace-end .ensures, digits (e .before) .trace) (replay-accepted _ _ _ (passed (e .before))))
+    let r = t .replay-trace .result in
+    ap₂ Balances (toZ-ofZ w16 (r .least) (search needs)) (toZ-ofZ w16 (r .balance) (search needs))
+    ∙ rw (t .replay-trace .ensures, e .trace-end .ensures, digits (e .before) .trace) (replay-accepted _ _ _ (passed (e .before)))
 
 pub replay-first-trace-spec : {M : Type 1} → statement M
 replay-first-trace-spec =
