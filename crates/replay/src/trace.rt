@@ -4,9 +4,8 @@ ghost use Prim.Native.Nat.{_*_, _≤_, _<_};
 ghost use lib.Signed.{mag};
 ghost use lib.ListN.{length};
 ghost use Rattle.event_log.specs.Frames.{mostEvents};
-ghost use Rattle.replay.specs.Replaying.{afterEvent, afterTrace, codesIn};
+ghost use Rattle.replay.specs.Replaying.{afterEvent, afterTrace, codeOf, codesIn};
 use crate::Tokens;
-use event_log::hex::value;
 use places::Place;
 
 // The tokens after one more event: it takes before it gives, so that an activity in both sets does not feed itself.
@@ -29,6 +28,13 @@ fn replay_event(tokens: Tokens, place: Place, code: u8) -> Tokens
     }
 }
 
+// The code that the second digit of an activity writes, with no branch: the digits 0 to 9 end in their value, and A to F in 9 less.
+fn code_of(digit: u8) -> u8
+    ensures { λ r. ⌜ r ≡ codeOf digit ⌝ }
+{
+    (digit % 16 + digit / 64 * 9) % 16
+}
+
 // The tokens after a trace, from its digits, two for each activity. Codes are below 16, so the second digit is the code. All events are
 // replayed, also after a token was missing.
 pub fn replay_trace(digits: &[u8], place: Place) -> Tokens
@@ -41,7 +47,7 @@ pub fn replay_trace(digits: &[u8], place: Place) -> Tokens
     };
     let mut at = 1;
     while at < digits.len() {
-        tokens = replay_event(tokens, place, value(digits[at]));
+        tokens = replay_event(tokens, place, code_of(digits[at]));
         at += 2;
     }
     tokens

@@ -1,7 +1,7 @@
 -- The codes in a trace's digits, read from an odd place on, two places a step; and that the codes of a written trace are the trace, where each
 -- is below 16: the second digit of such a code is the code.
 -- Assumes nothing.
-use Prim.Native.Nat.{ℕ, zero, suc, _+_, _-_, _/_, _%_, _≤_, _<_}
+use Prim.Native.Nat.{ℕ, zero, suc, _+_, _-_, _*_, _/_, _%_, _≤_, _<_}
 use native.Mathlib.Omega.{arith}
 use mathlib.Core.Path.{_≡_, refl, ap, ap₂, _∙_}
 use mathlib.Core.List.{List, [], _∷_, flatMap}
@@ -11,14 +11,13 @@ use lib.Seq.{drop-cons}
 use borrow.Author.Tests.{ltb-true, ltb-false}
 use Rattle.foundation.specs.Lists.{Each, each-nil, each-cons}
 use Rattle.foundation.proofs.laws.Booleans.{by-test}
-use Rattle.event_log.specs.Digits.{digitValue, valueIn, digitByte, writeHex}
-use Rattle.event_log.proofs.laws.DigitLaws.{digit-of}
-use Rattle.replay.specs.Replaying.{codesIn}
+use Rattle.event_log.specs.Digits.{digitByte, writeHex}
+use Rattle.replay.specs.Replaying.{codeOf, codesIn}
 
 module _ (digits : List ℕ) where
   -- the codes whose second digits stand from place `at` on
   pub codes-next : (at : ℕ) → 1 ≤ at → at < length digits
-      → codesIn (drop (at - 1) digits) ≡ digitValue (getD digits at 0) ∷ codesIn (drop (at + 2 - 1) digits)
+      → codesIn (drop (at - 1) digits) ≡ codeOf (getD digits at 0) ∷ codesIn (drop (at + 2 - 1) digits)
   unfolding codesIn
   codes-next zero some more = absurd (omega arith)
   codes-next (suc k) some more =
@@ -36,8 +35,26 @@ module _ (digits : List ℕ) where
       rw (drop-cons digits (at - 1) 0 h, drop-of-length-le digits last))
       (λ f. let h = ltb-false (at - 1) (length digits) f in rw (drop-of-length-le digits h))
 
-second-digit : (code : ℕ) → code < 16 → digitValue (digitByte (code / 1 % 16)) ≡ code
-second-digit code small = ap valueIn (digit-of (code / 1 % 16) (omega arith)) ∙ omega arith
+-- a code is below 16, whatever byte it is read from
+pub code-small : (digit : ℕ) → codeOf digit < 16
+unfolding codeOf
+code-small digit = omega arith
+
+-- the code that a byte writes is read back from it: the byte's low four bits are v, or v less 9 where the byte is a letter
+code-back : (byte v part : ℕ) → byte % 16 + part * 9 ≡ v → byte / 64 ≡ part → v < 16 → codeOf byte ≡ v
+unfolding codeOf
+code-back byte v part e f small = rw (f, e) (omega arith)
+
+code-of-byte : (v : ℕ) → v < 16 → codeOf (digitByte v) ≡ v
+unfolding digitByte
+code-of-byte v small =
+    by-test
+    (ltb v 10)
+    (λ t. let h = ltb-true v 10 t in rw t (code-back (48 + v) v 0 (omega arith) (omega arith) small))
+    (λ f. let h = ltb-false v 10 f in rw f (code-back (55 + v) v 1 (omega arith) (omega arith) small))
+
+second-digit : (code : ℕ) → code < 16 → codeOf (digitByte (code / 1 % 16)) ≡ code
+second-digit code small = let same : code / 1 % 16 ≡ code = omega arith in rw same (code-of-byte code small)
 
 pub codes-written : {trace : List ℕ} → Each (λ (a : ℕ). a < 16) trace → codesIn (flatMap (writeHex 2) trace) ≡ trace
 unfolding codesIn flatMap writeHex

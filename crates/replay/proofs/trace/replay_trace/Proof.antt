@@ -9,12 +9,10 @@ use lib.Dec.{lit<, lit≤}
 use lib.ListN.{length, drop, getD}
 use lib.Signed.{mag}
 use Rattle.foundation.specs.Lists.{foldl}
-use Rattle.event_log.specs.Digits.{digitValue}
-use Rattle.event_log.proofs.laws.DigitLaws.{value-small}
-use Rattle.replay.specs.Replaying.{afterEvent, codesIn}
+use Rattle.replay.specs.Replaying.{afterEvent, codeOf, codesIn}
 use Rattle.replay.proofs.laws.EventBits.{mag-event}
 use Rattle.replay.proofs.laws.EventByEvent.{noTokens, event-by-event}
-use Rattle.replay.proofs.laws.CodeDigits.{codes-next, codes-end}
+use Rattle.replay.proofs.laws.CodeDigits.{code-small, codes-next, codes-end}
 use Rattle.replay.proofs.trace.replay_trace.Statement.{statement}
 use Rattle.replay.proofs.trace.replay_trace.Tie as tie
 
@@ -32,18 +30,18 @@ loop-holds c = (lit≤ tt, lit< tt, refl)
 
 replay-event-requires : tie.Need-replay-event-requires Inv-loop μ-loop
 replay-event-requires c κs =
-    let code : c .value .result < 16 = rw (c .value .ensures) (value-small _) in
+    let code : c .code-of .result < 16 = rw (c .code-of .ensures) (code-small _) in
     (code, omega arith)
 
 loop-again : tie.Need-loop-again Inv-loop μ-loop
 loop-again c =
     let d = c .before .before .before .before in
     let a = d .before .before .args in
-    let step = c .replay-event .ensures ∙ ap (afterEvent (a .place) (d .loop .tokens)) (c .before .value .ensures) in
+    let step = c .replay-event .ensures ∙ ap (afterEvent (a .place) (d .loop .tokens)) (c .before .code-of .ensures) in
     let codes = codes-next (a .digits .now) (d .loop .at) (d .loop .inv .0) (c .before .before .before .loop-test .taken) in
     rw step (
       omega arith,
-      omega (arith, mag-event (a .place) (d .loop .tokens) (digitValue (getD (a .digits .now) (d .loop .at) 0))),
+      omega (arith, mag-event (a .place) (d .loop .tokens) (codeOf (getD (a .digits .now) (d .loop .at) 0))),
       sym (ap (foldl (afterEvent (a .place)) (d .loop .tokens)) codes) ∙ d .loop .inv .2,
     )
 
@@ -62,8 +60,8 @@ replay-trace-spec =
     Inv-loop
     μ-loop
     loop-holds
-    (λ c. omega arith)  -- shared-slice-read-value
-    (λ c κs. search needs)  -- value-requires
+    (λ c. omega arith)  -- shared-slice-read-code-of
+    (λ c κs. search needs)  -- code-of-requires
     replay-event-requires
     (λ c. omega arith)  -- add-at
     (λ c. omega arith)  -- loop-less
