@@ -40,7 +40,7 @@ readHex (byte ∷ bytes) = digitValue byte * 16 ^ length bytes + readHex bytes
 
 -- the number that two digits write; none where either byte is no digit
 unfoldable pub pairOf : ℕ → ℕ → Pair
-pairOf high low = cond (isDigit high && isDigit low) (Number (readHex (high ∷ low ∷ []))) NonDigits
+pairOf first second = cond (isDigit first && isDigit second) (Number (readHex (first ∷ second ∷ []))) NonDigits
 
 -- the byte that writes a value below 16
 unfoldable pub digitByte : ℕ → ℕ

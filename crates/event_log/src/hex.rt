@@ -16,12 +16,12 @@ pub fn classify(byte: u8) -> Digit
 }
 
 // The number that two digits write.
-pub fn pair(high: u8, low: u8) -> Pair
-    ensures { λ r. ⌜ r ≡ pairOf high low ⌝ }
+pub fn pair(first: u8, second: u8) -> Pair
+    ensures { λ r. ⌜ r ≡ pairOf first second ⌝ }
 {
-    match classify(high) {
+    match classify(first) {
         Digit::NonDigit => Pair::NonDigits,
-        Digit::Value(h) => match classify(low) {
+        Digit::Value(h) => match classify(second) {
             Digit::NonDigit => Pair::NonDigits,
             Digit::Value(l) => Pair::Number(16 * h + l),
         },

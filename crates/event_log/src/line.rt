@@ -27,14 +27,14 @@ pub fn count_at(text: &[u8], from: usize) -> Count
         return Count::Malformed;
     }
     let first = pair(text[from], text[from + 1]);
-    let Pair::Number(high) = first else {
+    let Pair::Number(front) = first else {
         return Count::Malformed;
     };
     let second = pair(text[from + 2], text[from + 3]);
-    let Pair::Number(low) = second else {
+    let Pair::Number(back) = second else {
         return Count::Malformed;
     };
-    let cases = 256 * high as u16 + low as u16;
+    let cases = 256 * front as u16 + back as u16;
     if cases == 0 {
         Count::Malformed
     } else {

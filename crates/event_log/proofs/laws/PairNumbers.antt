@@ -14,9 +14,9 @@ use Rattle.event_log.proofs.laws.DigitLaws.{value-small}
 pub digit-below : (byte v : ℕ) → digitOf byte ≡ Value v → v < 16
 digit-below byte v e = rw e at (value-small byte)
 
-two-digits : (high low : ℕ) → readHex (high ∷ low ∷ []) ≡ 16 * digitValue high + digitValue low
+two-digits : (first second : ℕ) → readHex (first ∷ second ∷ []) ≡ 16 * digitValue first + digitValue second
 unfolding readHex
-two-digits high low = omega arith
+two-digits first second = omega arith
 
 pub four-digits : (a b c d : ℕ)
     → readHex (a ∷ b ∷ c ∷ d ∷ []) ≡ 256 * readHex (a ∷ b ∷ []) + readHex (c ∷ d ∷ [])
@@ -24,43 +24,43 @@ unfolding readHex
 four-digits a b c d = omega arith
 
 -- two digits, and the number that they write
-pub record TwoDigits (high low n : ℕ) : Type 0 where
-  pub digits : (isDigit high && isDigit low) ≡ true
-  pub number : readHex (high ∷ low ∷ []) ≡ n
+pub record TwoDigits (first second n : ℕ) : Type 0 where
+  pub digits : (isDigit first && isDigit second) ≡ true
+  pub number : readHex (first ∷ second ∷ []) ≡ n
 
-module _ (high low : ℕ) where
-  pub pair-values : (h l : ℕ) → digitOf high ≡ Value h → digitOf low ≡ Value l → pairOf high low ≡ Number (16 * h + l)
+module _ (first second : ℕ) where
+  pub pair-values : (h l : ℕ) → digitOf first ≡ Value h → digitOf second ≡ Value l → pairOf first second ≡ Number (16 * h + l)
   unfolding pairOf isDigit
-  pair-values h l e f = rw (e, f, two-digits high low, e, f)
+  pair-values h l e f = rw (e, f, two-digits first second, e, f)
 
-  pub pair-high : digitOf high ≡ NonDigit → pairOf high low ≡ NonDigits
+  pub pair-first-other : digitOf first ≡ NonDigit → pairOf first second ≡ NonDigits
   unfolding pairOf isDigit
-  pair-high e = rw e
+  pair-first-other e = rw e
 
-  pub pair-low : (h : ℕ) → digitOf high ≡ Value h → digitOf low ≡ NonDigit → pairOf high low ≡ NonDigits
+  pub pair-second-other : (h : ℕ) → digitOf first ≡ Value h → digitOf second ≡ NonDigit → pairOf first second ≡ NonDigits
   unfolding pairOf isDigit
-  pair-low h e f = rw (e, f)
+  pair-second-other h e f = rw (e, f)
 
-  pub pair-digits : isDigit high && isDigit low ≡ true → pairOf high low ≡ Number (readHex (high ∷ low ∷ []))
+  pub pair-digits : isDigit first && isDigit second ≡ true → pairOf first second ≡ Number (readHex (first ∷ second ∷ []))
   unfolding pairOf
   pair-digits e = rw e
 
-  pub pair-no-digits : isDigit high && isDigit low ≡ false → pairOf high low ≡ NonDigits
+  pub pair-no-digits : isDigit first && isDigit second ≡ false → pairOf first second ≡ NonDigits
   unfolding pairOf
   pair-no-digits e = rw e
 
-  pub pair-number : (n : ℕ) → pairOf high low ≡ Number n → TwoDigits high low n
+  pub pair-number : (n : ℕ) → pairOf first second ≡ Number n → TwoDigits first second n
   unfolding pairOf
   pair-number n e =
       by-test
-      (isDigit high && isDigit low)
+      (isDigit first && isDigit second)
       (λ f. record { digits = f; number = let g = rw f at e in cc })
       (λ f. let g = rw f at e in impossible (cc))
 
-  pub pair-others : pairOf high low ≡ NonDigits → (isDigit high && isDigit low) ≡ false
+  pub pair-others : pairOf first second ≡ NonDigits → (isDigit first && isDigit second) ≡ false
   unfolding pairOf
   pair-others e =
       by-test
-      (isDigit high && isDigit low)
+      (isDigit first && isDigit second)
       (λ f. let g = rw f at e in impossible (cc))
       (λ f. f)

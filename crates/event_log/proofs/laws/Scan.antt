@@ -36,12 +36,12 @@ afterPair NonDigits go = Malformed
 
 unfoldable pub scan : ℕ → ℕ → Phase → Bool → List ℕ → Activities
 scan A at phase unknown [] = Malformed
-scan A at phase unknown (high ∷ []) = cond (eqb high lineFeed) (Read at unknown (incomplete phase)) Malformed
-scan A at phase unknown (high ∷ (low ∷ bytes)) =
+scan A at phase unknown (first ∷ []) = cond (eqb first lineFeed) (Read at unknown (incomplete phase)) Malformed
+scan A at phase unknown (first ∷ (second ∷ bytes)) =
     cond
-    (eqb high lineFeed)
+    (eqb first lineFeed)
     (Read at unknown (incomplete phase))
-    (afterPair (pairOf high low) (λ (code : ℕ). scan A (at + 2) (nextPhase phase code) (unknown || leb A code) bytes))
+    (afterPair (pairOf first second) (λ (code : ℕ). scan A (at + 2) (nextPhase phase code) (unknown || leb A code) bytes))
 
 -- what the definitions say where a pass stands, at `at`, having read some events
 abbrev reading : ℕ → ℕ → Phase → Bool → Line → Activities
@@ -72,21 +72,21 @@ module _ (A at : ℕ) (phase : Phase) (unknown : Bool) where
   at-other byte l e = rw (e, and-false)
 
   -- at a digit with another byte after it that is none
-  after-digit : (high low : ℕ) (bytes : List ℕ) → isDigit low ≡ false
-      → reading A at phase unknown (withByte high (firstLine (low ∷ bytes))) ≡ Malformed
+  after-digit : (first second : ℕ) (bytes : List ℕ) → isDigit second ≡ false
+      → reading A at phase unknown (withByte first (firstLine (second ∷ bytes))) ≡ Malformed
   unfolding inPairs
-  after-digit high low bytes e =
+  after-digit first second bytes e =
       by-test
-      (eqb low lineFeed)
-      (λ f. rw (eqb-true low lineFeed f, first-feed bytes))
-      (λ f. rw (first-byte low bytes (eqb-false low lineFeed f), e, and-false, and-false))
+      (eqb second lineFeed)
+      (λ f. rw (eqb-true second lineFeed f, first-feed bytes))
+      (λ f. rw (first-byte second bytes (eqb-false second lineFeed f), e, and-false, and-false))
 
   -- over two digits
-  over-pair : (high low : ℕ) (l : Line) → isDigit high ≡ true → isDigit low ≡ true
-      → reading A at phase unknown (withByte high (withByte low l))
-      ≡ reading A (at + 2) (nextPhase phase (readHex (high ∷ low ∷ []))) (unknown || leb A (readHex (high ∷ low ∷ []))) l
+  over-pair : (first second : ℕ) (l : Line) → isDigit first ≡ true → isDigit second ≡ true
+      → reading A at phase unknown (withByte first (withByte second l))
+      ≡ reading A (at + 2) (nextPhase phase (readHex (first ∷ second ∷ []))) (unknown || leb A (readHex (first ∷ second ∷ []))) l
   unfolding inPairs readPairs
-  over-pair high low l e f = rw (e, f, even (length (l .bytes)), further at (length (l .bytes)), or-assoc)
+  over-pair first second l e f = rw (e, f, even (length (l .bytes)), further at (length (l .bytes)), or-assoc)
 
   -- at the end of the text
   at-nothing : Malformed ≡ reading A at phase unknown (firstLine [])
@@ -94,54 +94,54 @@ module _ (A at : ℕ) (phase : Phase) (unknown : Bool) where
   at-nothing = rw first-none
 
   -- at its last byte
-  at-end : (high : ℕ) → eqb high lineFeed ≡ false → Malformed ≡ reading A at phase unknown (firstLine (high ∷ []))
+  at-end : (first : ℕ) → eqb first lineFeed ≡ false → Malformed ≡ reading A at phase unknown (firstLine (first ∷ []))
   unfolding inPairs
-  at-end high e = rw (first-byte high [] (eqb-false high lineFeed e), first-none)
+  at-end first e = rw (first-byte first [] (eqb-false first lineFeed e), first-none)
 
   -- at the line feed of the text
-  at-first-feed : (high : ℕ) (bytes : List ℕ) → eqb high lineFeed ≡ true
-      → Read at unknown (incomplete phase) ≡ reading A at phase unknown (firstLine (high ∷ bytes))
-  at-first-feed high bytes e = rw (eqb-true high lineFeed e, first-feed bytes, at-feed)
+  at-first-feed : (first : ℕ) (bytes : List ℕ) → eqb first lineFeed ≡ true
+      → Read at unknown (incomplete phase) ≡ reading A at phase unknown (firstLine (first ∷ bytes))
+  at-first-feed first bytes e = rw (eqb-true first lineFeed e, first-feed bytes, at-feed)
 
   -- at two bytes of which one is no digit
-  at-non-digits : (high low : ℕ) (bytes : List ℕ) → eqb high lineFeed ≡ false → isDigit high && isDigit low ≡ false
-      → Malformed ≡ reading A at phase unknown (firstLine (high ∷ low ∷ bytes))
-  at-non-digits high low bytes e f =
-      rw (first-byte high (low ∷ bytes) (eqb-false high lineFeed e))
+  at-non-digits : (first second : ℕ) (bytes : List ℕ) → eqb first lineFeed ≡ false → isDigit first && isDigit second ≡ false
+      → Malformed ≡ reading A at phase unknown (firstLine (first ∷ second ∷ bytes))
+  at-non-digits first second bytes e f =
+      rw (first-byte first (second ∷ bytes) (eqb-false first lineFeed e))
       (by-test
-      (isDigit high)
-      (λ d. sym (after-digit high low bytes (rw d at f)))
-      (λ d. sym (at-other high (firstLine (low ∷ bytes)) d)))
+      (isDigit first)
+      (λ d. sym (after-digit first second bytes (rw d at f)))
+      (λ d. sym (at-other first (firstLine (second ∷ bytes)) d)))
 
 -- two digits begin a line
-first-pair : (high low : ℕ) (bytes : List ℕ) → isDigit high ≡ true → isDigit low ≡ true
-    → firstLine (high ∷ low ∷ bytes) ≡ withByte high (withByte low (firstLine bytes))
-first-pair high low bytes e f =
-    rw (first-byte high (low ∷ bytes) (digit-no-feed high e), first-byte low bytes (digit-no-feed low f))
+first-pair : (first second : ℕ) (bytes : List ℕ) → isDigit first ≡ true → isDigit second ≡ true
+    → firstLine (first ∷ second ∷ bytes) ≡ withByte first (withByte second (firstLine bytes))
+first-pair first second bytes e f =
+    rw (first-byte first (second ∷ bytes) (digit-no-feed first e), first-byte second bytes (digit-no-feed second f))
 
 scan-reads : (A at : ℕ) (phase : Phase) (unknown : Bool) (bytes : List ℕ)
     → scan A at phase unknown bytes ≡ reading A at phase unknown (firstLine bytes)
 unfolding scan
 scan-reads A at phase unknown [] = at-nothing A at phase unknown
-scan-reads A at phase unknown (high ∷ []) =
+scan-reads A at phase unknown (first ∷ []) =
     by-test
-    (eqb high lineFeed)
-    (λ e. rw e (at-first-feed A at phase unknown high [] e))
-    (λ e. rw e (at-end A at phase unknown high e))
-scan-reads A at phase unknown (high ∷ (low ∷ bytes)) =
+    (eqb first lineFeed)
+    (λ e. rw e (at-first-feed A at phase unknown first [] e))
+    (λ e. rw e (at-end A at phase unknown first e))
+scan-reads A at phase unknown (first ∷ (second ∷ bytes)) =
     by-test
-    (eqb high lineFeed)
-    (λ e. rw e (at-first-feed A at phase unknown high (low ∷ bytes) e))
+    (eqb first lineFeed)
+    (λ e. rw e (at-first-feed A at phase unknown first (second ∷ bytes) e))
     (λ e. by-test
-    (isDigit high && isDigit low)
-    (λ f. rw (e, pair-digits high low f)
-    (let d = and-eq-true-iff (isDigit high) (isDigit low) .0 f in
+    (isDigit first && isDigit second)
+    (λ f. rw (e, pair-digits first second f)
+    (let d = and-eq-true-iff (isDigit first) (isDigit second) .0 f in
     rw (
-      first-pair high low bytes (d .0) (d .1),
-      over-pair A at phase unknown high low (firstLine bytes) (d .0) (d .1),
+      first-pair first second bytes (d .0) (d .1),
+      over-pair A at phase unknown first second (firstLine bytes) (d .0) (d .1),
     )
-    (scan-reads A (at + 2) (nextPhase phase (readHex (high ∷ low ∷ []))) (unknown || leb A (readHex (high ∷ low ∷ []))) bytes)))
-    (λ f. rw (e, pair-no-digits high low f) (at-non-digits A at phase unknown high low bytes e f)))
+    (scan-reads A (at + 2) (nextPhase phase (readHex (first ∷ second ∷ []))) (unknown || leb A (readHex (first ∷ second ∷ []))) bytes)))
+    (λ f. rw (e, pair-no-digits first second f) (at-non-digits A at phase unknown first second bytes e f)))
 
 -- a pass from the first activity of a line
 pub scan-first : (A from : ℕ) (bytes : List ℕ) → scan A from Before false bytes ≡ activitiesIn A from (firstLine bytes)
@@ -153,7 +153,7 @@ feed-ends : (A at : ℕ) (phase : Phase) (unknown : Bool) (bytes : List ℕ)
     → scan A at phase unknown (lineFeed ∷ bytes) ≡ Read at unknown (incomplete phase)
 unfolding scan
 feed-ends A at phase unknown [] = refl
-feed-ends A at phase unknown (low ∷ bytes) = refl
+feed-ends A at phase unknown (second ∷ bytes) = refl
 
 two-more : (n : ℕ) → n + 2 ≡ suc (suc n)
 two-more n = omega arith

@@ -84,9 +84,9 @@ module _ (p : Place) where
       (each-upTo (length trace) λ k l. (k, l, refl))
 
   -- the least balance is at most the balance at each event
-  pub least-lowest : (trace : List ℕ) (k : ℕ) → k < length trace → leZ (leastBalance p trace) (balanceAt p trace k) ≡ true
+  pub least-at-most : (trace : List ℕ) (k : ℕ) → k < length trace → leZ (leastBalance p trace) (balanceAt p trace k) ≡ true
   unfolding leastBalance
-  least-lowest trace = upTo-each (length trace) (least-bounds (balanceAt p trace) (upTo (length trace)))
+  least-at-most trace = upTo-each (length trace) (least-bounds (balanceAt p trace) (upTo (length trace)))
 
   -- the balance at event 0 is not above 0
   first-balance : (trace : List ℕ) → leZ (balanceAt p trace 0) (pos 0) ≡ true
@@ -102,7 +102,7 @@ module _ (p : Place) where
       (leastBalance p (a ∷ events))
       (balanceAt p (a ∷ events) 0)
       (pos 0)
-      (least-lowest (a ∷ events) 0 (omega arith))
+      (least-at-most (a ∷ events) 0 (omega arith))
       (first-balance (a ∷ events))
 
   -- a balance takes away at most one for each event

@@ -25,7 +25,7 @@ use Rattle.places.proofs.laws.Lighter.{within-has, lighter-sets}
 use Rattle.event_log.specs.Frames.{Frame, WrittenLog, totalCases}
 use Rattle.replay.specs.Balance.{count, balanceAt, leastBalance, lastBalance, underfeeds, overfeeds}
 use Rattle.replay.specs.Judgement.{casesWhere, caseCounts, underfedCases, overfedCases, exceeds}
-use Rattle.replay.proofs.laws.Extremes.{least-reached, least-lowest}
+use Rattle.replay.proofs.laws.Extremes.{least-reached, least-at-most}
 use Rattle.replay.proofs.laws.Counts.{casesIf, casesWhere-sum, underfed-all, overfed-all}
 
 -- every activity of the trace has a code that a set can name
@@ -89,7 +89,7 @@ module _ (p q : Place) (light : lighter p q ≡ true) where
       (leastBalance p trace)
       (balanceAt p trace k)
       (balanceAt q trace k)
-      (least-lowest p trace k l)
+      (least-at-most p trace k l)
       (balance-le trace k known)
 
   least-le : (trace : List ℕ) → Known trace → leZ (leastBalance p trace) (leastBalance q trace) ≡ true

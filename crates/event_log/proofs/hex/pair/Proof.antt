@@ -3,7 +3,7 @@
 use borrow.Author.Needs.{needs}
 use mathlib.Core.Path.{sym, _∙_}
 use native.Mathlib.Omega.{arith}
-use Rattle.event_log.proofs.laws.PairNumbers.{digit-below, pair-values, pair-high, pair-low}
+use Rattle.event_log.proofs.laws.PairNumbers.{digit-below, pair-values, pair-first-other, pair-second-other}
 use Rattle.event_log.proofs.hex.pair.Statement.{statement}
 use Rattle.event_log.proofs.hex.pair.Tie as tie
 
@@ -22,13 +22,13 @@ add-t10 c =
     )
 
 returns : tie.Need-returns
-returns c = sym (pair-high _ _ (sym (c .before .before .classify .ensures) ∙ c .enum-told .given .1))
+returns c = sym (pair-first-other _ _ (sym (c .before .before .classify .ensures) ∙ c .enum-told .given .1))
 
 returns-2 : tie.Need-returns-2
 returns-2 c =
     let d = c .before .before .before .before in
     sym
-    (pair-low
+    (pair-second-other
     _
     _
     _
