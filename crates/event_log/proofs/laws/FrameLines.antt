@@ -123,7 +123,7 @@ pub record FramedLine (A : ℕ) (l : Line) : Type 0 where
   pub under : FrameUnder A (frameOf l)
 
 pub under-back : {A : ℕ} {f : Frame} → A ≤ 256 → FrameUnder A f → frameOf (frameLine f) ≡ f
-under-back {f = f} narrow u = frame-back f (u .countable) (each-imply (λ a h. omega arith) (u .known))
+under-back {f = f} narrow u = frame-back f (omega (arith, u .countable)) (each-imply (λ a h. omega arith) (u .known))
 
 pub frame-formed : {A : ℕ} {f : Frame} → A ≤ 256 → FrameUnder A f → WellFormed (frameLine f)
 frame-formed {f = f} narrow u =
@@ -133,7 +133,7 @@ frame-formed {f = f} narrow u =
       even = rw size (omega arith);
       enough = rw size (omega (arith, u .long));
       digits = frame-digits f;
-      counted = rw (under-back narrow u) (u .counted);
+      counted = rw (under-back narrow u) (omega (arith, u .counted));
     }
 
 module _ (A k : ℕ) where

@@ -52,7 +52,7 @@ placed-behaviour (a ∷ (b ∷ rest)) long e =
           ap₂ _∷_
           (eqb-true a 0 (not-false (eqb a 0) (outer .0)))
           (last-split b rest 0 ∙ ap (λ (c : ℕ). between ++ (c ∷ [])) (eqb-true last 1 (not-false (eqb last 1) (outer .1))));
-      neither = each-imply (λ c. leb-false c 1) (none-each (λ (c : ℕ). leb c 1) between (parts .1));
+      neither = each-imply (λ c f. omega (arith, leb-false c 1 f)) (none-each (λ (c : ℕ). leb c 1) between (parts .1));
     }
 
 endpoints-placed : (between : List ℕ) → Each (λ (a : ℕ). 2 ≤ a) between → endpointMisplaced (0 ∷ (between ++ (1 ∷ []))) ≡ false
@@ -64,4 +64,4 @@ endpoints-placed between neither =
     ) (each-none (λ (a : ℕ). leb a 1) (each-imply (λ a. lt-leb a 1) neither))
 
 pub behaviour-placed : {trace : List ℕ} → Behaviour trace → endpointMisplaced trace ≡ false
-behaviour-placed b = rw (b .ends) (endpoints-placed (b .between) (b .neither))
+behaviour-placed b = rw (b .ends) (endpoints-placed (b .between) (each-imply (λ a h. omega arith) (b .neither)))
