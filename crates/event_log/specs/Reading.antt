@@ -5,7 +5,7 @@ use Prim.Native.Nat.{ℕ, suc, _+_, _%_}
 use mathlib.Core.Bool.{Bool, true, false, cond, not, _&&_}
 use mathlib.Core.List.{List}
 use lib.Dec.{eqb, leb}
-use lib.ListN.{length, take, drop}
+use lib.ListN.{length, take}
 use Rattle.foundation.specs.Lists.{all}
 use Rattle.limits.specs.Refusals.{answer}
 use Rattle.event_log.specs.declared.Activities.{Activities}
@@ -20,7 +20,7 @@ use Rattle.event_log.specs.declared.Phase.{Phase}
 use Rattle.event_log.specs.declared.Phase.the-variants.{Before, Inside, Complete, Misplaced}
 use Rattle.event_log.specs.Digits.{isDigit, readHex}
 use Rattle.event_log.specs.Frames.{countDigits, totalCases}
-use Rattle.event_log.specs.Lines.{Line, firstLine, readPairs, frameOf, framesOf}
+use Rattle.event_log.specs.Lines.{Line, readPairs, frameOf, framesOf}
 use Rattle.event_log.specs.Checking.{namesUnknown, endpointMisplaced, lineFault, textFault}
 
 -- the case count that a text begins with: four digits that are not 0000

@@ -2,7 +2,7 @@
 -- Assumes nothing.
 use Prim.Native.Nat.{ℕ, _+_, _*_, _≤_, _<_}
 use mathlib.Core.Path.{_≡_, refl, sym}
-use mathlib.Core.Bool.{true, false, _&&_, and-assoc, and-true, and-false}
+use mathlib.Core.Bool.{_&&_, and-assoc, and-true, and-false}
 use mathlib.Core.List.{List, [], _∷_}
 use native.Mathlib.Numerals.{add-one}
 use native.Mathlib.Omega.{arith}
@@ -14,7 +14,7 @@ use Rattle.event_log.specs.declared.Count.the-variants.{Cases, Malformed
 use Rattle.event_log.specs.declared.Pair.the-variants.{Number, NonDigits}
 use Rattle.event_log.specs.Digits.{isDigit, readHex, pairOf}
 use Rattle.event_log.specs.Reading.{countIn}
-use Rattle.event_log.proofs.laws.PairNumbers.{TwoDigits, four-digits, pair-number, pair-others}
+use Rattle.event_log.proofs.laws.PairNumbers.{four-digits, pair-number, pair-others}
 
 pub count-short : (text : List ℕ) → length text < 4 → countIn text ≡ Malformed
 unfolding countIn

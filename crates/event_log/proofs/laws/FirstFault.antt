@@ -8,17 +8,16 @@ use mathlib.Core.Path.{_≡_, sym, _∙_}
 use mathlib.Core.Logic.{_↔_}
 use mathlib.Core.Bool.{true, false}
 use mathlib.Core.List.{List, [], _∷_}
-use mathlib.Core.Option.{Option, none, some, Option·none-ne-some}
+use mathlib.Core.Option.{none, some, Option·none-ne-some}
 use lib.ListN.{length, getD}
 use Rattle.limits.specs.declared.Refusal.{Refusal}
-use Rattle.limits.specs.Refusals.{answer}
 use Rattle.limits.specs.Settings.{boundInRange}
-use Rattle.event_log.specs.declared.Checked.the-variants.{Accepted, Refused}
+use Rattle.event_log.specs.declared.Checked.the-variants.{Refused}
 use Rattle.event_log.specs.Frames.{totalCases}
 use Rattle.event_log.specs.Lines.{Line, lines, framesOf}
 use Rattle.event_log.specs.Checking.{lineFault, linesFault, textFault, checked}
 use Rattle.event_log.proofs.laws.FirstOf.{first-some}
-use Rattle.event_log.proofs.laws.LogChecks.{bound-passes, lines-decide}
+use Rattle.event_log.proofs.laws.LogChecks.{bound-passes, lines-decide, answer-refused}
 use Rattle.event_log.proofs.laws.LineFaults.{NamesLine, fault-order, names-line}
 
 -- the line with index k; past the last, one with no byte
@@ -111,15 +110,11 @@ module _ (A : ℕ) (text : List ℕ) (r : Refusal) where
         (rw (zero-add (f .index)) (f .faulty)),
   )
 
-refused-result : (o : Option Refusal) (n N : ℕ) (r : Refusal) → (answer Refused o (Accepted n N) ≡ Refused r) ↔ (o ≡ some r)
-refused-result none n N r = (λ e. let z : _≡_ {A = ℕ} 0 1 = cc in absurd (omega arith), λ e. absurd (Option·none-ne-some r e))
-refused-result (some s) n N r = (λ e. cc, λ e. cc)
-
 -- checking a text of some bytes under a bound in its range refuses it for just this
 pub refused-exactly : (A : ℕ) (text : List ℕ) (r : Refusal) → boundInRange A ≡ true → 1 ≤ length text
     → (checked A text ≡ Refused r) ↔ FirstFaultyLine A text r
 unfolding checked
 refused-exactly A text r in-range some-byte =
-    let law = refused-result (textFault A text) (length (framesOf text)) (totalCases (framesOf text)) r in
+    let law = answer-refused (textFault A text) (length (framesOf text)) (totalCases (framesOf text)) r in
     rw (bound-passes A .1 in-range, lines-decide A text some-byte)
     (λ e. first-faulty-line A text r .0 (law .0 e), λ f. law .1 (first-faulty-line A text r .1 f))

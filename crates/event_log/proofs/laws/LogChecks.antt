@@ -76,11 +76,12 @@ module _ (A : ℕ) (text : List ℕ) where
     unfolding checked linesChecked
     lines-checked some-byte = rw (bound-passes A .1 in-range, lines-decide A text some-byte)
 
--- a check that answers with a refusal was given it, and one that accepts was given none
-pub answer-refused : (o : Option Refusal) (n N : ℕ) (r : Refusal) → answer Refused o (Accepted n N) ≡ Refused r → o ≡ some r
-answer-refused none n N r e = impossible (cc)
-answer-refused (some s) n N r e = cc
+-- a check answers with a refusal exactly when it was given it, and accepts only where it was given none
+pub answer-refused : (o : Option Refusal) (n N : ℕ) (r : Refusal) → (answer Refused o (Accepted n N) ≡ Refused r) ↔ (o ≡ some r)
+answer-refused none n N r = (λ e. impossible (cc), λ e. impossible (cc))
+answer-refused (some s) n N r = (λ e. cc, λ e. cc)
 
-pub answer-accepted : (o : Option Refusal) (n N m M : ℕ) → answer Refused o (Accepted n N) ≡ Accepted m M → o ≡ none
-answer-accepted none n N m M e = refl
+pub answer-accepted : (o : Option Refusal) (n N m M : ℕ) → answer Refused o (Accepted n N) ≡ Accepted m M
+    → (o ≡ none) × (Accepted n N ≡ Accepted m M)
+answer-accepted none n N m M e = (refl, e)
 answer-accepted (some s) n N m M e = impossible (cc)

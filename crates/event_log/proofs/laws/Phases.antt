@@ -3,7 +3,7 @@
 -- Assumes nothing.
 use Prim.Native.Nat.{ℕ, suc, _-_}
 use mathlib.Core.Path.{_≡_, refl}
-use mathlib.Core.Bool.{Bool, true, false, not, _||_, or-true}
+use mathlib.Core.Bool.{Bool, true, not, _||_, or-true}
 use mathlib.Core.List.{List, [], _∷_}
 use native.Mathlib.Omega.{arith}
 use borrow.Author.Tests.{eqb-true, eqb-false, le-leb, lt-leb}
@@ -11,7 +11,7 @@ use lib.Dec.{eqb, leb}
 use lib.ListN.{length, take, getD}
 use Rattle.foundation.specs.Lists.{any, foldl}
 use Rattle.foundation.proofs.laws.Booleans.{by-test}
-use Rattle.event_log.specs.declared.Phase.the-variants.{Before, Inside, Complete, Misplaced}
+use Rattle.event_log.specs.declared.Phase.the-variants.{Before, Inside, Misplaced}
 use Rattle.event_log.specs.Checking.{endpointMisplaced}
 use Rattle.event_log.specs.Reading.{nextPhase, incomplete}
 

@@ -8,24 +8,21 @@ use mathlib.Core.Path.{_≡_, refl, sym, ap, ap₂, _∙_}
 use mathlib.Core.Logic.{_↔_}
 use mathlib.Core.Bool.{true, and-eq-true-iff}
 use mathlib.Core.List.{List, [], _∷_, _++_, map, flatMap}
-use mathlib.Core.Option.{Option, none, some}
+use mathlib.Core.Option.{none}
 use borrow.Author.Tests.{leb-true}
 use lib.Dec.{leb, lit≤}
 use lib.ListN.{length, length-map}
 use Rattle.foundation.specs.Lists.{Each, each-nil, each-cons}
 use Rattle.foundation.proofs.laws.Each.{each-imply, each-map}
-use Rattle.limits.specs.declared.Refusal.{Refusal}
-use Rattle.limits.specs.Refusals.{answer}
 use Rattle.limits.specs.Settings.{mostActivities, boundInRange, boundFault}
-use Rattle.event_log.specs.declared.Checked.{Checked}
-use Rattle.event_log.specs.declared.Checked.the-variants.{Accepted, Refused}
+use Rattle.event_log.specs.declared.Checked.the-variants.{Accepted}
 use Rattle.event_log.specs.Digits.{writeHex}
 use Rattle.event_log.specs.Frames.{Frame, FrameUnder, WrittenLog, mostFrames, writeFrame, totalCases}
 use Rattle.event_log.specs.Lines.{Line, lines, frameOf, framesOf}
 use Rattle.event_log.specs.Checking.{lineFault, linesFault, textFault, logRefusal, checked}
 use Rattle.event_log.proofs.laws.Lines.{lines-step}
 use Rattle.event_log.proofs.laws.FirstOf.{first-none}
-use Rattle.event_log.proofs.laws.LogChecks.{log-passes, bound-passes, lines-decide}
+use Rattle.event_log.proofs.laws.LogChecks.{log-passes, bound-passes, lines-decide, answer-accepted}
 use Rattle.event_log.proofs.laws.FrameLines.{frameLine, FramedLine, under-back, frame-no-fault, no-fault-framed}
 use Rattle.event_log.proofs.laws.TextLines.{lineText, text-of-lines, written-text, lines-written}
 
@@ -65,12 +62,6 @@ module _ (A : ℕ) where
   frames-back narrow each-nil = refl
   frames-back narrow (each-cons here later) = ap₂ _∷_ (under-back narrow here) (frames-back narrow later)
 
--- the answer is a result, so that nothing was refused
-accepted-result : (o : Option Refusal) (result : Checked) (n N : ℕ) → answer Refused o result ≡ Accepted n N
-    → (o ≡ none) × (result ≡ Accepted n N)
-accepted-result none result n N e = (refl, e)
-accepted-result (some r) result n N e = let z : _≡_ {A = ℕ} 0 1 = cc in absurd (omega arith)
-
 -- what the answer n, N says of a text
 pub record AcceptedAs (A : ℕ) (text : List ℕ) (n N : ℕ) : Type 0 where
   pub in-range : boundInRange A ≡ true
@@ -93,8 +84,7 @@ text-written A text some-byte sound =
 pub accepted-written : (A : ℕ) (text : List ℕ) (n N : ℕ) → checked A text ≡ Accepted n N → AcceptedAs A text n N
 unfolding checked
 accepted-written A text n N e =
-    let result = Accepted (length (framesOf text)) (totalCases (framesOf text)) in
-    let parts = accepted-result (logRefusal (boundFault A) none A text) result n N e in
+    let parts = answer-accepted (logRefusal (boundFault A) none A text) (length (framesOf text)) (totalCases (framesOf text)) n N e in
     let p = log-passes A text (boundFault A) none .0 (parts .0) in
     record {
       in-range = bound-passes A .0 (p .settings-pass);

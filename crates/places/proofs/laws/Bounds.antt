@@ -2,11 +2,11 @@
 -- inputs and outputs is under A exactly when both sets are.
 -- Assumes nothing.
 use Prim.Native.Nat.{ℕ, _<_, _≤_, _/_, _^_}
-use mathlib.Core.Path.{_≡_, refl, sym, _∙_}
+use mathlib.Core.Path.{_≡_}
 use mathlib.Core.Bool.{true, false, _&&_, and-false}
 use native.Mathlib.Omega.{arith}
 use native.Mathlib.Nat.{div-eq-of-lt, div-lt-iff-lt-mul, one-mul, lt-of-lt-of-le}
-use borrow.Author.Tests.{lt-ltb, le-ltb, ltb-true, ltb-false, eq-eqb, ne-eqb}
+use borrow.Author.Tests.{lt-ltb, ltb-true, ltb-false, eq-eqb, ne-eqb}
 use lib.Dec.{eqb, ltb}
 use lib.Pow.{pow-pos, pow-mono}
 use Rattle.foundation.proofs.laws.Booleans.{by-test}

@@ -1,7 +1,7 @@
 -- `replay::judge_place` meets its contract: it refuses what the arguments' checks refuse. Where they pass, the text is a log, whose cases are
 -- counted, and the counts give the verdict.
 -- Assumes nothing.
-use Prim.Native.Nat.{_≤_, _<_, _^_}
+use Prim.Native.Nat.{_≤_}
 use mathlib.Core.Path.{sym, _∙_}
 use mathlib.Core.Bool.{_&&_, and-eq-true-iff}
 use borrow.Author.Needs.{needs}

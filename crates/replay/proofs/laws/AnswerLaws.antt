@@ -19,7 +19,7 @@ use Rattle.places.specs.Places.{placeFault}
 use Rattle.event_log.specs.Frames.{Frame, FrameUnder, WrittenLog, mostEvents, totalCases}
 use Rattle.event_log.specs.Lines.{framesOf}
 use Rattle.event_log.specs.Checking.{logRefusal}
-use Rattle.event_log.proofs.laws.LogChecks.{LogPasses, log-passes}
+use Rattle.event_log.proofs.laws.LogChecks.{log-passes}
 use Rattle.event_log.proofs.laws.Written.{text-written}
 use Rattle.replay.specs.declared.CaseCounts.{CaseCounts}
 use Rattle.replay.specs.declared.Judged.the-variants.{Counted}

@@ -20,7 +20,7 @@ use Rattle.event_log.specs.Lines.{framesOf}
 use Rattle.event_log.specs.Checking.{emptyFault, logRefusal}
 use Rattle.event_log.specs.Reading.{linesChecked}
 use Rattle.event_log.proofs.laws.FirstOf.{given-none}
-use Rattle.event_log.proofs.laws.LogChecks.{LogPasses, lines-decide, log-passes, answer-refused, answer-accepted}
+use Rattle.event_log.proofs.laws.LogChecks.{lines-decide, log-passes, answer-refused, answer-accepted}
 use Rattle.event_log.proofs.laws.Written.{text-written}
 use Rattle.replay.specs.declared.Judged.the-variants.{Counted}
 use Rattle.replay.specs.declared.Judged.the-variants as JudgedAs
@@ -55,7 +55,7 @@ module _ (A : ℕ) (in-range : Bool) (text : List ℕ) (p : Place) where
 
   pub refused : (r : Refusal) → argumentsChecked A in-range text p ≡ Refused r → refusal ≡ some r
   unfolding argumentsChecked
-  refused r = answer-refused refusal (length (framesOf text)) (totalCases (framesOf text)) r
+  refused r = answer-refused refusal (length (framesOf text)) (totalCases (framesOf text)) r .0
 
   -- nothing is refused
   pub record Passed : Type 0 where
@@ -66,7 +66,7 @@ module _ (A : ℕ) (in-range : Bool) (text : List ℕ) (p : Place) where
   pub accepted : (n N : ℕ) → argumentsChecked A in-range text p ≡ Accepted n N → Passed
   unfolding argumentsChecked
   accepted n N e =
-      let none-given = answer-accepted refusal (length (framesOf text)) (totalCases (framesOf text)) n N e in
+      let none-given = answer-accepted refusal (length (framesOf text)) (totalCases (framesOf text)) n N e .0 in
       let passes = log-passes A text (given (not in-range) InvalidSetting) (placeFault A 0 p) .0 none-given in
       record {
         settings = not-false in-range (given-none (not in-range) InvalidSetting (passes .settings-pass));
