@@ -9,7 +9,7 @@ use mathlib.Core.Bool.{Bool, true, false, cond, false≢true}
 use lib.Dec.{ltb}
 use lib.IntN.{ℤ, pos, negsuc, subℕ}
 use lib.Signed.{ltZ, leZ}
-use borrow.Author.Tests.{lt-ltb, le-ltb, le-leb, ltb-true, ltb-false, leb-true, leb-false}
+use borrow.Author.Tests.{lt-ltb, le-leb, ltb-true, ltb-false, leb-true, leb-false}
 
 -- the order: reflexive, transitive, antisymmetric and total
 pub leZ-refl : (a : ℤ) → leZ a a ≡ true
@@ -66,20 +66,3 @@ difference-le a b c d h = go (ltb a b) (ltb c d) refl refl
     go true false e f = refl
     go false true e f = absurd (omega (arith, ltb-true, ltb-false))
     go false false e f = le-leb (a - b) (c - d) (omega (arith, ltb-false))
-
--- a difference is below 0 exactly where its first number is the smaller, and above 0 exactly where its second is
-pub difference-negative : (a b : ℕ) → ltZ (subℕ a b) (pos 0) ≡ ltb a b
-difference-negative a b = go (ltb a b)
-  where
-    go : (x : Bool) → ltZ (cond x (negsuc (b - suc a)) (pos (a - b))) (pos 0) ≡ x
-    go true = refl
-    go false = le-ltb (a - b) 0 (omega arith)
-
-pub difference-positive : (a b : ℕ) → ltZ (pos 0) (subℕ a b) ≡ ltb b a
-difference-positive a b = go (ltb a b) (ltb b a) refl refl
-  where
-    go : (x y : Bool) → ltb a b ≡ x → ltb b a ≡ y → ltZ (pos 0) (cond x (negsuc (b - suc a)) (pos (a - b))) ≡ y
-    go true true e f = absurd (omega (arith, ltb-true))
-    go true false e f = refl
-    go false true e f = lt-ltb 0 (a - b) (omega (arith, ltb-true))
-    go false false e f = le-ltb 0 (a - b) (omega (arith, ltb-false))
