@@ -1,7 +1,7 @@
 -- The steps of replaying and judging: the checks of a call's arguments, the tokens after one more event and after a trace, the codes that a
 -- trace's digits stand for, and the case counts with one more frame. Document 01, "Tokens in one trace" and "Settings and the log".
 -- Assumes nothing.
-use Prim.Native.Nat.{ℕ, _+_, _*_, _/_, _%_}
+use Prim.Native.Nat.{ℕ, _+_}
 use mathlib.Core.Bool.{Bool, cond, not, _&&_}
 use mathlib.Core.List.{List, [], _∷_}
 use lib.IntN.{pos, _+ℤ_, _-ℤ_}
@@ -14,6 +14,7 @@ use Rattle.places.specs.Sets.{has}
 use Rattle.places.specs.Places.{placeFault}
 use Rattle.event_log.specs.declared.Checked.{Checked}
 use Rattle.event_log.specs.declared.Checked.the-variants.{Accepted, Refused}
+use Rattle.event_log.specs.Digits.{digitValue}
 use Rattle.event_log.specs.Frames.{totalCases}
 use Rattle.event_log.specs.Lines.{framesOf}
 use Rattle.event_log.specs.Checking.{logRefusal}
@@ -39,15 +40,11 @@ afterEvent p t code =
 abbrev pub afterTrace : Place → List ℕ → Tokens
 afterTrace p trace = record { balance = lastBalance p trace; least = leastBalance p trace }
 
--- the code that a digit's byte writes: 0 to 9 are the bytes 48 to 57 and A to F 65 to 70, so the low four bits are the value, or 9 less
-unfoldable pub codeOf : ℕ → ℕ
-codeOf digit = (digit % 16 + digit / 64 * 9) % 16
-
 -- the activity codes of a trace's digits, two digits each: codes are below 16, so the second digit of the two is the code
 unfoldable pub codesIn : List ℕ → List ℕ
 codesIn [] = []
 codesIn (d ∷ []) = []
-codesIn (d ∷ (e ∷ bytes)) = codeOf e ∷ codesIn bytes
+codesIn (d ∷ (e ∷ bytes)) = digitValue e ∷ codesIn bytes
 
 -- all cases of four case counts
 abbrev pub casesOf : CaseCounts → ℕ

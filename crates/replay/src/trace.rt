@@ -3,8 +3,11 @@ ghost use mathlib.Core.Path.{_≡_};
 ghost use Prim.Native.Nat.{_*_, _≤_, _<_};
 ghost use lib.Signed.{mag};
 ghost use lib.ListN.{length};
+ghost use mathlib.Core.Bool.{true};
+ghost use Rattle.foundation.specs.Lists.{all};
+ghost use Rattle.event_log.specs.Digits.{isDigit, digitValue};
 ghost use Rattle.event_log.specs.Frames.{mostEvents};
-ghost use Rattle.replay.specs.Replaying.{afterEvent, afterTrace, codeOf, codesIn};
+ghost use Rattle.replay.specs.Replaying.{afterEvent, afterTrace, codesIn};
 use crate::Tokens;
 use places::Place;
 
@@ -30,7 +33,8 @@ fn replay_event(tokens: Tokens, place: Place, code: u8) -> Tokens
 
 // The code that the second digit of an activity writes, with no branch: the digits 0 to 9 end in their value, and A to F in 9 less.
 fn code_of(digit: u8) -> u8
-    ensures { λ r. ⌜ r ≡ codeOf digit ⌝ }
+    requires { ⌜ isDigit digit ≡ true ⌝ }
+    ensures { λ r. ⌜ r ≡ digitValue digit ⌝ }
 {
     (digit % 16 + digit / 64 * 9) % 16
 }
@@ -38,7 +42,7 @@ fn code_of(digit: u8) -> u8
 // The tokens after a trace, from its digits, two for each activity. Codes are below 16, so the second digit is the code. All events are
 // replayed, also after a token was missing.
 pub fn replay_trace(digits: &[u8], place: Place) -> Tokens
-    requires { ⌜ length (now digits) ≤ 2 * mostEvents ⌝ }
+    requires { ⌜ (length (now digits) ≤ 2 * mostEvents) × (all isDigit (now digits) ≡ true) ⌝ }
     ensures { λ r. ⌜ r ≡ afterTrace place (codesIn (now (digits .entry))) ⌝ }
 {
     let mut tokens = Tokens {

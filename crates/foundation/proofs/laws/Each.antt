@@ -7,7 +7,7 @@ use mathlib.Core.Path.{_≡_, refl}
 use mathlib.Core.Bool.{Bool, true, false, cond, false≢true, and-eq-true-iff}
 use mathlib.Core.List.{List, [], _∷_, _++_, map}
 use lib.Dec.{eqb}
-use lib.ListN.{length, take, drop, length-append}
+use lib.ListN.{length, take, drop, getD, length-append}
 use borrow.Author.Tests.{eqb-true, eqb-false}
 use Rattle.foundation.specs.Lists.{Each, each-nil, each-cons, keep, all, any, upTo}
 use Rattle.foundation.proofs.laws.Booleans.{or-false-parts}
@@ -61,6 +61,12 @@ module _ {A : Type 0} (p : A → Bool) where
   pub each-none : {xs : List A} → Each (λ (x : A). p x ≡ false) xs → any p xs ≡ false
   each-none each-nil = refl
   each-none (each-cons here later) = rw here (each-none later)
+
+-- the element at an index passes where all do
+pub all-at : {A : Type 0} (p : A → Bool) (xs : List A) (k : ℕ) (d : A) → all p xs ≡ true → k < length xs → p (getD xs k d) ≡ true
+all-at p [] k d e h = absurd (omega arith)
+all-at p (x ∷ xs) zero d e h = and-eq-true-iff (p x) (all p xs) .0 e .0
+all-at p (x ∷ xs) (suc k) d e h = all-at p xs k d (and-eq-true-iff (p x) (all p xs) .0 e .1) (omega arith)
 
 -- where all that q keeps passes p, each element that passes q passes p
 pub all-keep : {A : Type 0} (p q : A → Bool) (xs : List A) → all p (keep q xs) ≡ true → Each (λ (x : A). q x ≡ true → p x ≡ true) xs

@@ -3,7 +3,8 @@
 -- Assumes nothing.
 use Prim.Native.Nat.{ℕ, zero, suc, _+_, _-_, _*_, _/_, _%_, _≤_, _<_}
 use native.Mathlib.Omega.{arith}
-use mathlib.Core.Path.{_≡_, refl, ap₂}
+use mathlib.Core.Path.{_≡_, refl, ap, ap₂, _∙_}
+use mathlib.Core.Bool.{true}
 use mathlib.Core.List.{List, [], _∷_, flatMap}
 use lib.Dec.{ltb}
 use lib.ListN.{length, drop, getD, drop-of-length-le}
@@ -11,13 +12,14 @@ use lib.Seq.{drop-cons}
 use borrow.Author.Tests.{ltb-true, ltb-false}
 use Rattle.foundation.specs.Lists.{Each, each-nil, each-cons}
 use Rattle.foundation.proofs.laws.Booleans.{by-test}
-use Rattle.event_log.specs.Digits.{digitByte, writeHex}
-use Rattle.replay.specs.Replaying.{codeOf, codesIn}
+use Rattle.event_log.specs.Digits.{isDigit, valueIn, digitValue, digitByte, writeHex}
+use Rattle.event_log.proofs.laws.DigitLaws.{digit-writes, digit-of}
+use Rattle.replay.specs.Replaying.{codesIn}
 
 module _ (digits : List ℕ) where
   -- the codes whose second digits stand from place `at` on
   pub codes-next : (at : ℕ) → 1 ≤ at → at < length digits
-      → codesIn (drop (at - 1) digits) ≡ codeOf (getD digits at 0) ∷ codesIn (drop (at + 2 - 1) digits)
+      → codesIn (drop (at - 1) digits) ≡ digitValue (getD digits at 0) ∷ codesIn (drop (at + 2 - 1) digits)
   unfolding codesIn
   codes-next zero some more = absurd (omega arith)
   codes-next (suc k) some more =
@@ -35,26 +37,26 @@ module _ (digits : List ℕ) where
       rw (drop-cons digits (at - 1) 0 h, drop-of-length-le digits last))
       (λ f. let h = ltb-false (at - 1) (length digits) f in rw (drop-of-length-le digits h))
 
--- a code is below 16, whatever byte it is read from
-pub code-small : (digit : ℕ) → codeOf digit < 16
-unfolding codeOf
-code-small digit = omega arith
+-- how a known digit's value is computed with no branch: the byte's low four bits are the value, or 9 less where the byte is a letter
+abbrev pub computed : ℕ → ℕ
+computed byte = (byte % 16 + byte / 64 * 9) % 16
 
--- the code that a byte writes is read back from it: the byte's low four bits are v, or v less 9 where the byte is a letter
-code-back : (byte v part : ℕ) → byte % 16 + part * 9 ≡ v → byte / 64 ≡ part → v < 16 → codeOf byte ≡ v
-unfolding codeOf
-code-back byte v part e f small = rw (f, e) (omega arith)
+computed-back : (byte v letter : ℕ) → byte % 16 + letter * 9 ≡ v → byte / 64 ≡ letter → v < 16 → computed byte ≡ v
+computed-back byte v letter e f small = rw (f, e) (omega arith)
 
-code-of-byte : (v : ℕ) → v < 16 → codeOf (digitByte v) ≡ v
+computed-written : (v : ℕ) → v < 16 → computed (digitByte v) ≡ v
 unfolding digitByte
-code-of-byte v small =
+computed-written v small =
     by-test
     (ltb v 10)
-    (λ t. let h = ltb-true v 10 t in rw t (code-back (48 + v) v 0 (omega arith) (omega arith) small))
-    (λ f. let h = ltb-false v 10 f in rw f (code-back (55 + v) v 1 (omega arith) (omega arith) small))
+    (λ t. let h = ltb-true v 10 t in rw t (computed-back (48 + v) v 0 (omega arith) (omega arith) small))
+    (λ f. let h = ltb-false v 10 f in rw f (computed-back (55 + v) v 1 (omega arith) (omega arith) small))
 
-second-digit : (code : ℕ) → code < 16 → codeOf (digitByte (code / 1 % 16)) ≡ code
-second-digit code small = let same : code / 1 % 16 ≡ code = omega arith in rw same (code-of-byte code small)
+pub computed-value : (byte : ℕ) → isDigit byte ≡ true → computed byte ≡ digitValue byte
+computed-value byte e = let w = digit-writes byte e in rw (w .back) at (computed-written (digitValue byte) (w .small))
+
+second-digit : (code : ℕ) → code < 16 → digitValue (digitByte (code / 1 % 16)) ≡ code
+second-digit code small = ap valueIn (digit-of (code / 1 % 16) (omega arith)) ∙ omega arith
 
 pub codes-written : {trace : List ℕ} → Each (λ (a : ℕ). a < 16) trace → codesIn (flatMap (writeHex 2) trace) ≡ trace
 unfolding codesIn flatMap writeHex

@@ -3,14 +3,18 @@
 use Prim.Native.Nat.{ℕ, _-_, _*_, _≤_, _<_}
 use native.Mathlib.Omega.{arith}
 use mathlib.Core.Path.{_≡_, refl, sym, ap, _∙_}
+use mathlib.Core.Bool.{true}
 use mathlib.Core.List.{List, [], _∷_, _++_, flatMap}
 use lib.ListN.{length, take, drop}
+use Rattle.foundation.specs.Lists.{all}
+use Rattle.foundation.proofs.laws.Each.{each-all}
 use Rattle.foundation.proofs.laws.Lists.{each-head}
 use Rattle.limits.specs.Settings.{mostActivities}
+use Rattle.event_log.specs.Digits.{isDigit}
 use Rattle.event_log.specs.Frames.{Frame, FrameUnder, WrittenLog, countDigits, mostEvents, writeFrame}
 use Rattle.event_log.specs.Lines.{framesOf}
 use Rattle.event_log.specs.Stepping.{traceEnd}
-use Rattle.event_log.proofs.laws.PairLaws.{length-pairs}
+use Rattle.event_log.proofs.laws.PairLaws.{length-pairs, pairs-digits}
 use Rattle.event_log.proofs.laws.FrameAt.{frame-end, frame-part, frame-inside}
 use Rattle.replay.specs.Answers.{firstTrace}
 use Rattle.replay.specs.Replaying.{codesIn}
@@ -21,6 +25,7 @@ pub record FirstDigits (text : List ℕ) : Type 0 where
   pub starts : countDigits ≤ traceEnd text countDigits
   pub ends : traceEnd text countDigits < length text
   pub short : length (take (traceEnd text countDigits - countDigits) (drop countDigits text)) ≤ 2 * mostEvents
+  pub digits : all isDigit (take (traceEnd text countDigits - countDigits) (drop countDigits text)) ≡ true
   pub trace : codesIn (take (traceEnd text countDigits - countDigits) (drop countDigits text)) ≡ firstTrace text
 
 first-of : (text : List ℕ) (f : Frame) (frames : List Frame) → framesOf text ≡ f ∷ frames → firstTrace text ≡ f .trace
@@ -42,5 +47,6 @@ first-digits text w = go (framesOf text) refl
           starts = omega (arith, frame-end text 0 f rest begins);
           ends = frame-inside text 0 f rest begins;
           short = rw digits (omega (arith, length-pairs (f .trace), u .short));
+          digits = rw digits (each-all isDigit (pairs-digits (f .trace)));
           trace = ap codesIn digits ∙ codes-written (u .known) ∙ sym (first-of text f frames e);
         }

@@ -4,16 +4,19 @@
 use Prim.Native.Nat.{ℕ, _+_, _-_, _*_, _^_, _≤_, _<_}
 use native.Mathlib.Omega.{arith}
 use mathlib.Core.Path.{_≡_, ap}
+use mathlib.Core.Bool.{true}
 use mathlib.Core.List.{List, [], _∷_, flatMap}
 use lib.ListN.{length, take, drop, length-drop}
-use Rattle.foundation.specs.Lists.{Each, foldl}
+use Rattle.foundation.specs.Lists.{Each, all, foldl}
+use Rattle.foundation.proofs.laws.Each.{each-all}
 use Rattle.foundation.proofs.laws.Lists.{each-head, each-tail}
 use Rattle.limits.specs.Settings.{mostActivities}
 use Rattle.places.specs.declared.Place.{Place}
+use Rattle.event_log.specs.Digits.{isDigit}
 use Rattle.event_log.specs.Frames.{Frame, FrameUnder, WrittenLog, countDigits, mostEvents, mostFrames, writeFrame, totalCases}
 use Rattle.event_log.specs.Lines.{framesOf}
 use Rattle.event_log.specs.Stepping.{casesAt, traceEnd}
-use Rattle.event_log.proofs.laws.PairLaws.{length-pairs}
+use Rattle.event_log.proofs.laws.PairLaws.{length-pairs, pairs-digits}
 use Rattle.event_log.proofs.laws.FrameAt.{frame-cases, frame-end, frame-part, frame-inside, frame-next}
 use Rattle.replay.specs.declared.CaseCounts.{CaseCounts}
 use Rattle.replay.specs.Judgement.{caseCounts}
@@ -37,6 +40,7 @@ pub record Turn (p : Place) (text : List ℕ) (counts : CaseCounts) (at start en
   pub starts : start ≤ end
   pub ends : end < length text
   pub short : length (take (end - start) (drop start text)) ≤ 2 * mostEvents
+  pub digits : all isDigit (take (end - start) (drop start text)) ≡ true
   pub fits : casesOf counts + casesAt text at < 2 ^ 64
   pub after : SomeLeft p text (withCases counts (afterTrace p (codesIn (take (end - start) (drop start text)))) (casesAt text at)) (end + 1)
 
@@ -79,6 +83,7 @@ module _ (p : Place) (text : List ℕ) where
           starts = omega (arith, frame-end text at f rest (l .written));
           ends = frame-inside text at f rest (l .written);
           short = rw digits (omega (arith, length-pairs (f .trace), u .short));
+          digits = rw digits (each-all isDigit (pairs-digits (f .trace)));
           fits = rw cases (omega (arith, l .bounded));
           after = rw (digits, codes-written (u .known), cases) (frames, left);
         }

@@ -36,7 +36,8 @@ part-replay-trace-end : tie.Need-part-replay-trace-end
 part-replay-trace-end c = omega (arith, digits (c .before) .ends, c .trace-end .ensures)
 
 replay-trace-requires : tie.Need-replay-trace-requires
-replay-trace-requires c κs = rw (c .before .trace-end .ensures) (digits (c .before .before) .short)
+replay-trace-requires c κs =
+    let d = digits (c .before .before) in rw (c .before .trace-end .ensures) (d .short, d .digits)
 
 returns : tie.Need-returns
 returns c =

@@ -38,7 +38,7 @@ part-replay-trace-end : tie.Need-part-replay-trace-end Inv-loop μ-loop
 part-replay-trace-end c = omega (arith, here c .ends)
 
 replay-trace-requires : tie.Need-replay-trace-requires Inv-loop μ-loop
-replay-trace-requires c κs = here (c .before) .short
+replay-trace-requires c κs = (here (c .before) .short, here (c .before) .digits)
 
 add-cases-requires : tie.Need-add-cases-requires Inv-loop μ-loop
 add-cases-requires c κs = rw (c .cases-at .ensures) (here (c .before .before .before) .fits)

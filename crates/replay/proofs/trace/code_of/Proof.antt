@@ -1,14 +1,12 @@
--- `replay::trace::code_of` meets its contract: it is the definition's formula, and no part of it exceeds a byte.
+-- `replay::trace::code_of` meets its contract: of a digit, what it computes is the value, and no part of it exceeds a byte.
 -- Assumes nothing.
-use mathlib.Core.Path.{refl}
 use borrow.Author.Needs.{needs}
-use Rattle.replay.specs.Replaying.{codeOf}
+use Rattle.replay.proofs.laws.CodeDigits.{computed-value}
 use Rattle.replay.proofs.trace.code_of.Statement.{statement}
 use Rattle.replay.proofs.trace.code_of.Tie as tie
 
 returns : tie.Need-returns
-unfolding codeOf
-returns c = refl
+returns c = computed-value _ (c .pre)
 
 pub code-of-spec : {M : Type 1} → statement M
 code-of-spec =

@@ -4,15 +4,17 @@
 use Prim.Native.Nat.{_+_, _-_, _≤_, _<_}
 use native.Mathlib.Omega.{arith}
 use mathlib.Core.Path.{_≡_, refl, sym, ap, _∙_}
-use borrow.Author.Needs.{needs}
 use lib.Dec.{lit<, lit≤}
 use lib.ListN.{length, drop, getD}
 use lib.Signed.{mag}
 use Rattle.foundation.specs.Lists.{foldl}
-use Rattle.replay.specs.Replaying.{afterEvent, codeOf, codesIn}
+use Rattle.foundation.proofs.laws.Each.{all-at}
+use Rattle.event_log.specs.Digits.{isDigit, digitValue}
+use Rattle.event_log.proofs.laws.DigitLaws.{value-small}
+use Rattle.replay.specs.Replaying.{afterEvent, codesIn}
 use Rattle.replay.proofs.laws.EventBits.{mag-event}
 use Rattle.replay.proofs.laws.EventByEvent.{noTokens, event-by-event}
-use Rattle.replay.proofs.laws.CodeDigits.{code-small, codes-next, codes-end}
+use Rattle.replay.proofs.laws.CodeDigits.{codes-next, codes-end}
 use Rattle.replay.proofs.trace.replay_trace.Statement.{statement}
 use Rattle.replay.proofs.trace.replay_trace.Tie as tie
 
@@ -28,9 +30,14 @@ abbrev μ-loop : tie.MeasureT-loop
 loop-holds : tie.Need-loop-holds Inv-loop μ-loop
 loop-holds c = (lit≤ tt, lit< tt, refl)
 
+code-of-requires : tie.Need-code-of-requires Inv-loop μ-loop
+code-of-requires c κs =
+    let d = c .before .before in
+    all-at isDigit (d .before .before .args .digits .now) (d .loop .at) 0 (d .before .before .pre .1) (c .before .loop-test .taken)
+
 replay-event-requires : tie.Need-replay-event-requires Inv-loop μ-loop
 replay-event-requires c κs =
-    let code : c .code-of .result < 16 = rw (c .code-of .ensures) (code-small _) in
+    let code : c .code-of .result < 16 = rw (c .code-of .ensures) (value-small _) in
     (code, omega arith)
 
 loop-again : tie.Need-loop-again Inv-loop μ-loop
@@ -41,7 +48,7 @@ loop-again c =
     let codes = codes-next (a .digits .now) (d .loop .at) (d .loop .inv .0) (c .before .before .before .loop-test .taken) in
     rw step (
       omega arith,
-      omega (arith, mag-event (a .place) (d .loop .tokens) (codeOf (getD (a .digits .now) (d .loop .at) 0))),
+      omega (arith, mag-event (a .place) (d .loop .tokens) (digitValue (getD (a .digits .now) (d .loop .at) 0))),
       sym (ap (foldl (afterEvent (a .place)) (d .loop .tokens)) codes) ∙ d .loop .inv .2,
     )
 
@@ -61,7 +68,7 @@ replay-trace-spec =
     μ-loop
     loop-holds
     (λ c. omega arith)  -- shared-slice-read-code-of
-    (λ c κs. search needs)  -- code-of-requires
+    code-of-requires
     replay-event-requires
     (λ c. omega arith)  -- add-at
     (λ c. omega arith)  -- loop-less
