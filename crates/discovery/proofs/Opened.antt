@@ -3,8 +3,9 @@
 use Rattle.discovery.specs.Rejected.{mark, rejectedWord, markIn, placeIn, rulesUnderfed, rulesOverfed, ruledOverfed, ruled}
 use Rattle.discovery.specs.Search.{start, visited, replayedOnce, withFound, withRejected, withPruned, proceed, isPruned, accept, reject, conclude, replay, visit, step, search, endOf, stateOf}
 use Rattle.discovery.specs.Discovery.{run, summary, runRefusal, discovered, capacityOf, foundAfter, rejectedAfter}
+use Rattle.discovery.specs.TwoRuns.{isFitting, fits, fittingCandidates, foundBy, Completes, FoundAll}
 use Rattle.replay.proofs.Opened.{opened as opened-replay}
 
 unfoldable pub opened : Unit {0}
-unfolding mark rejectedWord markIn placeIn rulesUnderfed rulesOverfed ruledOverfed ruled start visited replayedOnce withFound withRejected withPruned proceed isPruned accept reject conclude replay visit step search endOf stateOf run summary runRefusal discovered capacityOf foundAfter rejectedAfter opened-replay
+unfolding mark rejectedWord markIn placeIn rulesUnderfed rulesOverfed ruledOverfed ruled start visited replayedOnce withFound withRejected withPruned proceed isPruned accept reject conclude replay visit step search endOf stateOf run summary runRefusal discovered capacityOf foundAfter rejectedAfter isFitting fits fittingCandidates foundBy Completes FoundAll opened-replay
 opened = tt

@@ -1,3 +1,4 @@
 pub mod Rejected
 pub mod Search
 pub mod Discovery
+pub mod TwoRuns

@@ -9,6 +9,11 @@ pub data Each {A : Type 0} (P : A → Type 0) : List A → Type 0 where
   each-nil : Each P []
   each-cons : {x : A} {xs : List A} → P x → Each P xs → Each P (x ∷ xs)
 
+-- every two elements are related, the earlier to the later
+pub data Ordered {A : Type 0} (R : A → A → Type 0) : List A → Type 0 where
+  ordered-nil : Ordered R []
+  ordered-cons : {x : A} {xs : List A} → Each (R x) xs → Ordered R xs → Ordered R (x ∷ xs)
+
 module _ {A : Type 0} where
   -- the elements that pass the test, in their order
   abbrev pub keep : (A → Bool) → List A → List A
@@ -25,7 +30,7 @@ module _ {A : Type 0} where
   any p [] = false
   any p (x ∷ xs) = p x || any p xs
 
-  -- every two elements are related, the earlier to the later
+  -- the same by a test
   abbrev pub pairwise : (A → A → Bool) → List A → Bool
   pairwise r [] = true
   pairwise r (x ∷ xs) = all (r x) xs && pairwise r xs

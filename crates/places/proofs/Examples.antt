@@ -1,5 +1,6 @@
 -- The definitions of sets, places and their order, tried on small sets and on the places of the source's Figure 1 and Definitions 9 to 11.
 -- Assumes nothing.
+use Prim.Native.Nat.{ℕ}
 use mathlib.Core.Path.{_≡_, refl}
 use mathlib.Core.Bool.{true, false}
 use mathlib.Core.Logic.{inl, inr}
@@ -12,7 +13,8 @@ use Rattle.places.specs.declared.Place.{Place}
 use Rattle.places.specs.Sets.{codes, size, within, disjoint, union}
 use Rattle.places.specs.Places.{place, word, placeOf, placeFault, wordsRefusal, lighter, nonOverlapping, join}
 use Rattle.places.specs.Order.{ends, lower, same, SetBefore, PlaceBefore}
-use Rattle.places.specs.Candidates.{candidate, sets, candidates, extends, descends}
+use Rattle.places.specs.Candidates.{candidateSet, candidate, sets, candidates, extends, descends}
+use Rattle.places.specs.Succession.{setAfter, setPast}
 use Rattle.places.proofs.Opened.{opened}
 
 pub record SetExamples : Type 0 where
@@ -41,6 +43,10 @@ pub record OrderExamples : Type 0 where
       (place 4 6 ∷ place 6 4 ∷ place 1 7 ∷ place 8 1 ∷ place 0 1 ∷ [])
       ≡ true ∷ false ∷ false ∷ false ∷ false ∷ []
   pub extended : map (extends 2) (2 ∷ 6 ∷ 14 ∷ 3 ∷ 7 ∷ 4 ∷ []) ≡ false ∷ true ∷ true ∷ false ∷ false ∷ false ∷ []
+  -- after {0,1}, after {2}, and of a set that is not listed; past {0} and {0,1}, past {1} and {2}
+  pub after : map (λ (s : ℕ). setAfter s (sets 3 2)) (3 ∷ 4 ∷ 7 ∷ []) ≡ 5 ∷ 0 ∷ 0 ∷ []
+  pub past : map (λ (s : ℕ). setPast s (sets 3 3)) (1 ∷ 3 ∷ 2 ∷ 4 ∷ []) ≡ 2 ∷ 5 ∷ 4 ∷ 0 ∷ []
+  pub candidate-sets : map (candidateSet 3 2) (0 ∷ 1 ∷ 6 ∷ 7 ∷ 8 ∷ []) ≡ false ∷ true ∷ true ∷ false ∷ false ∷ []
   pub same-outputs : map (descends (place 1 2)) (place 3 2 ∷ place 3 6 ∷ []) ≡ true ∷ false ∷ []
 
 -- p1 to p5 of Figure 1, with the codes 0 for the start, 1 for the end and 2 to 5 for a to d
@@ -84,6 +90,9 @@ order-examples =
       listed = refl;
       sized = refl;
       extended = refl;
+      after = refl;
+      past = refl;
+      candidate-sets = refl;
       same-outputs = refl;
     }
 

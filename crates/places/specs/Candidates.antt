@@ -9,7 +9,11 @@ use Rattle.foundation.specs.Lists.{keep, all}
 use Rattle.limits.specs.declared.Settings.{Settings}
 use Rattle.places.specs.declared.Place.{Place}
 use Rattle.places.specs.Sets.{member, codes, size, within}
-use Rattle.places.specs.Places.{place, placeUnder}
+use Rattle.places.specs.Places.{place, below, placeUnder}
+
+-- a set that a candidate may have: not empty, of codes below n, and of at most m of them
+unfoldable pub candidateSet : ℕ → ℕ → ℕ → Bool
+candidateSet n m s = not (eqb s 0) && below n s && leb (size s) m
 
 -- a candidate: a through place of codes below A, with no more inputs and outputs than the settings allow
 unfoldable pub candidate : Settings → Place → Bool
