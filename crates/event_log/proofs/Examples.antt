@@ -1,4 +1,4 @@
--- The definitions of digits, frames and checking, tried on small texts, on the source's first log and at each fault of a line.
+-- The definitions of frames and checking, tried on small texts, on the source's first log and at each fault of a line.
 -- Assumes nothing.
 use Prim.Native.Nat.{ℕ}
 use mathlib.Core.Path.{_≡_, refl}
@@ -15,24 +15,14 @@ use Rattle.event_log.specs.declared.Activities.the-variants.{Read}
 use Rattle.event_log.specs.declared.Activities.the-variants as ActivitiesAs
 use Rattle.event_log.specs.declared.Count.the-variants.{Cases}
 use Rattle.event_log.specs.declared.Count.the-variants as CountAs
-use Rattle.event_log.specs.declared.Digit.the-variants.{Value, NonDigit}
 use Rattle.event_log.specs.declared.LineChecked.the-variants.{Sound, Faulty}
-use Rattle.event_log.specs.declared.Pair.the-variants.{Number, NonDigits}
 use Rattle.event_log.specs.declared.Phase.the-variants.{Before, Inside, Complete, Misplaced}
-use Rattle.event_log.specs.Digits.{digitOf, readHex, pairOf, writeHex}
 use Rattle.event_log.specs.Frames.{Frame, writeFrame, WrittenLog}
 use Rattle.event_log.specs.Lines.{lines, firstLine, framesOf}
 use Rattle.event_log.specs.Checking.{lineFault, checked}
 use Rattle.event_log.specs.Reading.{countIn, nextPhase, activitiesIn, lineChecked}
 use Rattle.event_log.specs.Stepping.{casesAt, traceEnd}
 use Rattle.event_log.proofs.Opened.{opened}
-
-pub record DigitExamples : Type 0 where
-  pub digits : map digitOf (bytes "09AF") ≡ Value 0 ∷ Value 9 ∷ Value 10 ∷ Value 15 ∷ []
-  pub others : map digitOf (bytes "/:@Gaf") ≡ map digitOf (replicate 6 0)
-  pub no-digit : digitOf 0 ≡ NonDigit
-  pub read : readHex (bytes "01FA") ≡ 506
-  pub written : writeHex 4 506 ≡ bytes "01FA"
 
 abbrev pub frame : ℕ → List ℕ → Frame
 frame cases trace = record { cases = cases; trace = trace }
@@ -87,8 +77,6 @@ pub record FaultExamples : Type 0 where
 
 -- the steps of reading a line, and of stepping through a checked log
 pub record StepExamples : Type 0 where
-  pub pair : pairOf 49 70 ≡ Number 31
-  pub no-pair : pairOf 49 10 ≡ NonDigits
   pub count : countIn (bytes "01FA00") ≡ Cases 506
   pub count-zero : countIn (bytes "000001") ≡ CountAs.Malformed
   pub count-short : countIn (bytes "01F") ≡ CountAs.Malformed
@@ -110,8 +98,6 @@ pub step-examples : StepExamples
 unfolding opened
 step-examples =
     record {
-      pair = refl;
-      no-pair = refl;
       count = refl;
       count-zero = refl;
       count-short = refl;
@@ -129,10 +115,6 @@ step-examples =
       end = refl;
       no-end = refl;
     }
-
-pub digit-examples : DigitExamples
-unfolding opened
-digit-examples = record { digits = refl; others = refl; no-digit = refl; read = refl; written = refl }
 
 built-log : WrittenLog 2 (frame 1 (0 ∷ 1 ∷ []) ∷ []) (bytes "00010001\n")
 unfolding opened

@@ -1,5 +1,4 @@
 pub mod Lines
-pub mod DigitLaws
 pub mod PairLaws
 pub mod TraceLaws
 pub mod FirstOf
@@ -9,7 +8,6 @@ pub mod TextLines
 pub mod LogChecks
 pub mod Written
 pub mod FirstFault
-pub mod PairNumbers
 pub mod Phases
 pub mod Scan
 pub mod Counts

@@ -13,7 +13,7 @@ use Rattle.limits.specs.Refusals.{given, firstOf, firstRefusal, answer}
 use Rattle.limits.specs.Settings.{boundFault}
 use Rattle.event_log.specs.declared.Checked.{Checked}
 use Rattle.event_log.specs.declared.Checked.the-variants.{Accepted, Refused}
-use Rattle.event_log.specs.Digits.{isDigit}
+use Rattle.hex_digits.specs.Digits.{isDigit}
 use Rattle.event_log.specs.Frames.{countDigits, mostEvents, mostFrames, totalCases}
 use Rattle.event_log.specs.Lines.{Line, lines, frameOf, framesOf}
 

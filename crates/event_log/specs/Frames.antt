@@ -5,7 +5,7 @@ use mathlib.Core.Path.{_≡_}
 use mathlib.Core.List.{List, [], _∷_, _++_, map, flatMap}
 use lib.ListN.{length}
 use Rattle.foundation.specs.Lists.{Each, sum}
-use Rattle.event_log.specs.Digits.{writeHex, lineFeed}
+use Rattle.hex_digits.specs.Digits.{writeHex, lineFeed}
 
 -- a trace, the activity codes of its events, with the number of cases that it was logged for
 pub record Frame : Type 0 where

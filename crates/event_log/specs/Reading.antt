@@ -18,7 +18,7 @@ use Rattle.event_log.specs.declared.LineChecked.{LineChecked}
 use Rattle.event_log.specs.declared.LineChecked.the-variants.{Sound, Faulty}
 use Rattle.event_log.specs.declared.Phase.{Phase}
 use Rattle.event_log.specs.declared.Phase.the-variants.{Before, Inside, Complete, Misplaced}
-use Rattle.event_log.specs.Digits.{isDigit, readHex}
+use Rattle.hex_digits.specs.Digits.{isDigit, readHex}
 use Rattle.event_log.specs.Frames.{countDigits, totalCases}
 use Rattle.event_log.specs.Lines.{Line, readPairs, frameOf, framesOf}
 use Rattle.event_log.specs.Checking.{namesUnknown, endpointMisplaced, lineFault, textFault}

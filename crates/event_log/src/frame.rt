@@ -3,7 +3,7 @@ ghost use mathlib.Core.Path.{_≡_};
 ghost use Rattle.event_log.specs.Stepping.{casesAt, traceEnd};
 use crate::COUNT_DIGITS;
 use crate::LINE_FEED;
-use crate::hex::value;
+use hex_digits::hex::value;
 
 // The case count of the frame that begins at an index, 0 where its digits are not all there.
 pub fn cases_at(text: &[u8], from: usize) -> u16

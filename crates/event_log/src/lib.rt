@@ -7,7 +7,6 @@ use limits::Refusal;
 use limits::bound_in_range;
 
 pub mod frame; // frame.rt: stepping through the frames of a checked log
-pub mod hex; // hex.rt: hexadecimal digits
 pub mod line; // line.rt: one line
 
 // The byte that ends a line.
@@ -23,18 +22,6 @@ pub const LONGEST_LINE: usize = 512;
 
 // The most frames of a log.
 pub const MOST_FRAMES: usize = 4096;
-
-// What a byte is as a hexadecimal digit.
-pub enum Digit {
-    Value(u8),
-    NonDigit,
-}
-
-// What two bytes are as hexadecimal digits.
-pub enum Pair {
-    Number(u8),
-    NonDigits,
-}
 
 // The case count that a line begins with.
 pub enum Count {

@@ -10,10 +10,10 @@ use crate::LINE_FEED;
 use crate::LONGEST_LINE;
 use crate::LineChecked;
 use crate::MOST_FRAMES;
-use crate::Pair;
 use crate::Phase;
 use crate::SHORTEST_LINE;
-use crate::hex::pair;
+use hex_digits::Pair;
+use hex_digits::hex::pair;
 use limits::Refusal;
 
 // The case count of the line that begins at `from`.

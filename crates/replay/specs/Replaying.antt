@@ -14,7 +14,7 @@ use Rattle.places.specs.Sets.{has}
 use Rattle.places.specs.Places.{placeFault}
 use Rattle.event_log.specs.declared.Checked.{Checked}
 use Rattle.event_log.specs.declared.Checked.the-variants.{Accepted, Refused}
-use Rattle.event_log.specs.Digits.{digitValue}
+use Rattle.hex_digits.specs.Digits.{digitValue}
 use Rattle.event_log.specs.Frames.{totalCases}
 use Rattle.event_log.specs.Lines.{framesOf}
 use Rattle.event_log.specs.Checking.{logRefusal}

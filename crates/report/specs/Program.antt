@@ -11,7 +11,7 @@ use Rattle.limits.specs.declared.Refusal.{Refusal}
 use Rattle.limits.specs.declared.Refusal.the-variants.{InvalidSetting, TooLarge}
 use Rattle.limits.specs.declared.Settings.{Settings}
 use Rattle.limits.specs.Refusals.{number, value, given, firstOf, answer}
-use Rattle.event_log.specs.Digits.{isDigit, readHex, writeHex, lineFeed}
+use Rattle.hex_digits.specs.Digits.{isDigit, readHex, writeHex, lineFeed}
 use Rattle.discovery.specs.Search.{Capacity, holding, Progress, endOf, stateOf}
 use Rattle.discovery.specs.Discovery.{run, runRefusal}
 use Rattle.reduction.specs.Reduction.{reducedWords}

@@ -9,7 +9,7 @@ use Rattle.foundation.specs.Buffers.{overwrite}
 use Rattle.limits.specs.declared.Refusal.{Refusal}
 use Rattle.limits.specs.Refusals.{answer}
 use Rattle.places.specs.Places.{placeOf, wordsRefusal}
-use Rattle.event_log.specs.Digits.{writeHex, lineFeed}
+use Rattle.hex_digits.specs.Digits.{writeHex, lineFeed}
 use Rattle.report.specs.declared.Written.{Written}
 use Rattle.report.specs.declared.Written.the-variants.{Bytes, Refused}
 

@@ -11,10 +11,10 @@ use lib.ListN.{length, drop, getD}
 use lib.Seq.{drop-cons}
 use Rattle.foundation.specs.Lists.{all}
 use Rattle.event_log.specs.declared.Count.the-variants.{Cases, Malformed}
-use Rattle.event_log.specs.declared.Pair.the-variants.{Number, NonDigits}
-use Rattle.event_log.specs.Digits.{isDigit, readHex, pairOf}
+use Rattle.hex_digits.specs.declared.Pair.the-variants.{Number, NonDigits}
+use Rattle.hex_digits.specs.Digits.{isDigit, readHex, pairOf}
 use Rattle.event_log.specs.Reading.{countIn}
-use Rattle.event_log.proofs.laws.PairNumbers.{four-digits, pair-number, pair-others}
+use Rattle.hex_digits.proofs.laws.PairNumbers.{four-digits, pair-number, pair-others}
 
 pub count-short : (text : List ℕ) → length text < 4 → countIn text ≡ Malformed
 unfolding countIn

@@ -7,10 +7,10 @@ use mathlib.Core.Path.{_≡_, sym, ap, _∙_}
 use mathlib.Core.List.{List, _∷_, _++_, flatMap, append-assoc}
 use lib.ListN.{length, take, drop, length-append, length-drop}
 use lib.Seq.{take-at, drop-at, drop-drop, drop-append-add}
-use Rattle.event_log.specs.Digits.{writeHex, lineFeed}
+use Rattle.hex_digits.specs.Digits.{writeHex, lineFeed}
 use Rattle.event_log.specs.Frames.{Frame, countDigits, writeFrame}
 use Rattle.event_log.specs.Stepping.{casesAt, traceEnd}
-use Rattle.event_log.proofs.laws.DigitLaws.{length-write}
+use Rattle.hex_digits.proofs.laws.DigitLaws.{length-write}
 use Rattle.event_log.proofs.laws.PairLaws.{length-pairs}
 use Rattle.event_log.proofs.laws.FrameSteps.{cases-written, end-written}
 

@@ -14,11 +14,11 @@ use lib.Seq.{length-take-le, take-at, drop-at}
 use Rattle.foundation.specs.Lists.{Each, all}
 use Rattle.foundation.proofs.laws.Booleans.{or-false-parts}
 use Rattle.foundation.proofs.laws.Each.{each-imply, each-append, each-take, each-drop, all-each, each-all}
-use Rattle.event_log.specs.Digits.{isDigit, readHex, writeHex}
+use Rattle.hex_digits.specs.Digits.{isDigit, readHex, writeHex}
 use Rattle.event_log.specs.Frames.{Frame, FrameUnder, countDigits, mostFrames}
 use Rattle.event_log.specs.Lines.{Line, readPairs, frameOf}
 use Rattle.event_log.specs.Checking.{malformed, namesUnknown, endpointMisplaced, lineFault}
-use Rattle.event_log.proofs.laws.DigitLaws.{EachDigit, read-small, read-write, write-read, length-write, write-digits}
+use Rattle.hex_digits.proofs.laws.DigitLaws.{EachDigit, read-small, read-write, write-read, length-write, write-digits}
 use Rattle.event_log.proofs.laws.PairLaws.{read-pairs, write-pairs, length-pairs, length-read-pairs, pairs-digits}
 use Rattle.event_log.proofs.laws.TraceLaws.{all-known, none-unknown, placed-behaviour, behaviour-placed}
 use Rattle.event_log.proofs.laws.LineFaults.{Readable, FaultOrder, no-fault, fault-order}

@@ -8,10 +8,10 @@ use mathlib.Core.List.{List, [], _∷_, _++_, flatMap}
 use borrow.Author.Tests.{le-leb, lt-leb, ne-eqb}
 use lib.ListN.{length, drop, getD, length-append, length-drop, drop-of-length-le}
 use lib.Seq.{drop-cons, take-at, drop-drop}
-use Rattle.event_log.specs.Digits.{digitValue, readHex, writeHex, lineFeed}
+use Rattle.hex_digits.specs.Digits.{digitValue, readHex, writeHex, lineFeed}
 use Rattle.event_log.specs.Frames.{countDigits}
 use Rattle.event_log.specs.Stepping.{casesAt, pairsLength, traceEnd}
-use Rattle.event_log.proofs.laws.DigitLaws.{byte-is-digit, read-write, length-write}
+use Rattle.hex_digits.proofs.laws.DigitLaws.{byte-is-digit, read-write, length-write}
 use Rattle.event_log.proofs.laws.TextLines.{digit-no-feed}
 use Rattle.event_log.proofs.laws.Counts.{four-from}
 

@@ -20,13 +20,13 @@ use Rattle.limits.specs.declared.Refusal.{Refusal}
 use Rattle.event_log.specs.declared.Activities.the-variants as Activities
 use Rattle.event_log.specs.declared.Count.the-variants as Count
 use Rattle.event_log.specs.declared.LineChecked.the-variants.{Sound, Faulty}
-use Rattle.event_log.specs.Digits.{isDigit, readHex, lineFeed}
+use Rattle.hex_digits.specs.Digits.{isDigit, readHex, lineFeed}
 use Rattle.event_log.specs.Frames.{countDigits, mostEvents}
 use Rattle.event_log.specs.Lines.{Line, firstLine, readPairs, frameOf}
 use Rattle.event_log.specs.Checking.{malformed, namesUnknown, endpointMisplaced}
 use Rattle.event_log.specs.Reading.{countIn, inPairs, activitiesIn, lineChecked}
 use Rattle.event_log.proofs.laws.Lines.{first-none, first-feed, first-byte}
-use Rattle.event_log.proofs.laws.DigitLaws.{EachDigit}
+use Rattle.hex_digits.proofs.laws.DigitLaws.{EachDigit}
 use Rattle.event_log.proofs.laws.TextLines.{digit-no-feed}
 use Rattle.event_log.proofs.laws.LineFaults.{FaultOrder, fault-order}
 use Rattle.event_log.proofs.laws.FrameLines.{WellFormed, well-formed, not-malformed, trace-length}

@@ -10,7 +10,7 @@ use borrow.Author.Tests.{ne-eqb}
 use lib.Dec.{eqb}
 use lib.ListN.{length, drop, getD}
 use Rattle.foundation.proofs.laws.Booleans.{by-test}
-use Rattle.event_log.specs.Digits.{lineFeed}
+use Rattle.hex_digits.specs.Digits.{lineFeed}
 use Rattle.event_log.specs.Lines.{Line, putFirst, lines, firstLine}
 
 -- a line with one byte more in front

@@ -16,17 +16,17 @@ use Rattle.foundation.specs.Lists.{any, foldl}
 use Rattle.foundation.proofs.laws.Booleans.{by-test}
 use Rattle.event_log.specs.declared.Activities.{Activities}
 use Rattle.event_log.specs.declared.Activities.the-variants.{Read, Malformed}
-use Rattle.event_log.specs.declared.Pair.{Pair}
-use Rattle.event_log.specs.declared.Pair.the-variants.{Number, NonDigits}
+use Rattle.hex_digits.specs.declared.Pair.{Pair}
+use Rattle.hex_digits.specs.declared.Pair.the-variants.{Number, NonDigits}
 use Rattle.event_log.specs.declared.Phase.{Phase}
 use Rattle.event_log.specs.declared.Phase.the-variants.{Before}
-use Rattle.event_log.specs.Digits.{isDigit, readHex, pairOf, lineFeed}
+use Rattle.hex_digits.specs.Digits.{isDigit, readHex, pairOf, lineFeed}
 use Rattle.event_log.specs.Lines.{Line, firstLine, readPairs}
 use Rattle.event_log.specs.Checking.{namesUnknown}
 use Rattle.event_log.specs.Reading.{nextPhase, incomplete, inPairs, activitiesIn}
 use Rattle.event_log.proofs.laws.Lines.{withByte, first-none, first-feed, first-byte}
 use Rattle.event_log.proofs.laws.TextLines.{digit-no-feed}
-use Rattle.event_log.proofs.laws.PairNumbers.{pair-digits, pair-no-digits}
+use Rattle.hex_digits.proofs.laws.PairNumbers.{pair-digits, pair-no-digits}
 use Rattle.event_log.proofs.laws.Phases.{phases-misplaced}
 
 -- on a number go on, else stop

@@ -9,10 +9,10 @@ use borrow.Author.Tests.{eqb-true, ne-eqb}
 use lib.Dec.{eqb}
 use Rattle.foundation.specs.Lists.{each-nil, each-cons}
 use Rattle.foundation.proofs.laws.Booleans.{by-test}
-use Rattle.event_log.specs.Digits.{digitOf, isDigit, lineFeed}
+use Rattle.hex_digits.specs.Digits.{digitOf, isDigit, lineFeed}
 use Rattle.event_log.specs.Frames.{Frame, writeFrame}
 use Rattle.event_log.specs.Lines.{Line, putFirst, lines}
-use Rattle.event_log.proofs.laws.DigitLaws.{EachDigit}
+use Rattle.hex_digits.proofs.laws.DigitLaws.{EachDigit}
 use Rattle.event_log.proofs.laws.FrameLines.{frameLine, frame-digits}
 
 -- the bytes of a line with the line feed that ends it, if one does

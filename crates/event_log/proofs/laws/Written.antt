@@ -16,7 +16,7 @@ use Rattle.foundation.specs.Lists.{Each, each-nil, each-cons}
 use Rattle.foundation.proofs.laws.Each.{each-imply, each-map}
 use Rattle.limits.specs.Settings.{mostActivities, boundInRange, boundFault}
 use Rattle.event_log.specs.declared.Checked.the-variants.{Accepted}
-use Rattle.event_log.specs.Digits.{writeHex}
+use Rattle.hex_digits.specs.Digits.{writeHex}
 use Rattle.event_log.specs.Frames.{Frame, FrameUnder, WrittenLog, mostFrames, writeFrame, totalCases}
 use Rattle.event_log.specs.Lines.{Line, lines, frameOf, framesOf}
 use Rattle.event_log.specs.Checking.{lineFault, linesFault, textFault, logRefusal, checked}

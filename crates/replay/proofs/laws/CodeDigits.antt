@@ -12,8 +12,8 @@ use lib.Seq.{drop-cons}
 use borrow.Author.Tests.{ltb-true, ltb-false}
 use Rattle.foundation.specs.Lists.{Each, each-nil, each-cons}
 use Rattle.foundation.proofs.laws.Booleans.{by-test}
-use Rattle.event_log.specs.Digits.{isDigit, valueIn, digitValue, digitByte, writeHex}
-use Rattle.event_log.proofs.laws.DigitLaws.{digit-writes, digit-of}
+use Rattle.hex_digits.specs.Digits.{isDigit, valueIn, digitValue, digitByte, writeHex}
+use Rattle.hex_digits.proofs.laws.DigitLaws.{digit-writes, digit-of}
 use Rattle.replay.specs.Replaying.{codesIn}
 
 module _ (digits : List ℕ) where

@@ -10,7 +10,7 @@ use Rattle.foundation.specs.Lists.{all}
 use Rattle.foundation.proofs.laws.Each.{each-all}
 use Rattle.foundation.proofs.laws.Lists.{each-head}
 use Rattle.limits.specs.Settings.{mostActivities}
-use Rattle.event_log.specs.Digits.{isDigit}
+use Rattle.hex_digits.specs.Digits.{isDigit}
 use Rattle.event_log.specs.Frames.{Frame, FrameUnder, WrittenLog, countDigits, mostEvents, writeFrame}
 use Rattle.event_log.specs.Lines.{framesOf}
 use Rattle.event_log.specs.Stepping.{traceEnd}

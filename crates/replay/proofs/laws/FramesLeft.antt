@@ -12,7 +12,7 @@ use Rattle.foundation.proofs.laws.Each.{each-all}
 use Rattle.foundation.proofs.laws.Lists.{each-head, each-tail}
 use Rattle.limits.specs.Settings.{mostActivities}
 use Rattle.places.specs.declared.Place.{Place}
-use Rattle.event_log.specs.Digits.{isDigit}
+use Rattle.hex_digits.specs.Digits.{isDigit}
 use Rattle.event_log.specs.Frames.{Frame, FrameUnder, WrittenLog, countDigits, mostEvents, mostFrames, writeFrame, totalCases}
 use Rattle.event_log.specs.Lines.{framesOf}
 use Rattle.event_log.specs.Stepping.{casesAt, traceEnd}

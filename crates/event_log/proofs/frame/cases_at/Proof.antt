@@ -4,7 +4,7 @@ use Prim.Native.Nat.{_<_}
 use native.Mathlib.Omega.{arith}
 use mathlib.Core.Path.{sym}
 use borrow.Author.Needs.{needs}
-use Rattle.event_log.proofs.laws.DigitLaws.{value-small}
+use Rattle.hex_digits.proofs.laws.DigitLaws.{value-small}
 use Rattle.event_log.proofs.laws.FrameSteps.{cases-short, cases-number}
 use Rattle.event_log.proofs.frame.cases_at.Statement.{statement}
 use Rattle.event_log.proofs.frame.cases_at.Tie as tie

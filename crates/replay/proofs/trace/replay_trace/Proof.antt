@@ -9,8 +9,8 @@ use lib.ListN.{length, drop, getD}
 use lib.Signed.{mag}
 use Rattle.foundation.specs.Lists.{foldl}
 use Rattle.foundation.proofs.laws.Each.{all-at}
-use Rattle.event_log.specs.Digits.{isDigit, digitValue}
-use Rattle.event_log.proofs.laws.DigitLaws.{value-small}
+use Rattle.hex_digits.specs.Digits.{isDigit, digitValue}
+use Rattle.hex_digits.proofs.laws.DigitLaws.{value-small}
 use Rattle.replay.specs.Replaying.{afterEvent, codesIn}
 use Rattle.replay.proofs.laws.EventBits.{mag-event}
 use Rattle.replay.proofs.laws.EventByEvent.{noTokens, event-by-event}

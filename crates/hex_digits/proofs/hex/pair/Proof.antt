@@ -1,11 +1,11 @@
--- `event_log::hex::pair` meets its contract: by what each of the two bytes is. A digit's value is below 16, so the number fits a byte.
+-- `hex_digits::hex::pair` meets its contract: by what each of the two bytes is. A digit's value is below 16, so the number fits a byte.
 -- Assumes nothing.
 use borrow.Author.Needs.{needs}
 use mathlib.Core.Path.{sym, _∙_}
 use native.Mathlib.Omega.{arith}
-use Rattle.event_log.proofs.laws.PairNumbers.{digit-below, pair-values, pair-first-other, pair-second-other}
-use Rattle.event_log.proofs.hex.pair.Statement.{statement}
-use Rattle.event_log.proofs.hex.pair.Tie as tie
+use Rattle.hex_digits.proofs.laws.PairNumbers.{digit-below, pair-values, pair-first-other, pair-second-other}
+use Rattle.hex_digits.proofs.hex.pair.Statement.{statement}
+use Rattle.hex_digits.proofs.hex.pair.Tie as tie
 
 mul-t9 : tie.Need-mul-t9
 mul-t9 c =

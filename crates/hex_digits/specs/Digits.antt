@@ -5,10 +5,10 @@ use mathlib.Core.Bool.{Bool, true, false, cond, _&&_}
 use mathlib.Core.List.{List, [], _∷_}
 use lib.Dec.{leb, ltb}
 use lib.ListN.{length}
-use Rattle.event_log.specs.declared.Digit.{Digit}
-use Rattle.event_log.specs.declared.Digit.the-variants.{Value, NonDigit}
-use Rattle.event_log.specs.declared.Pair.{Pair}
-use Rattle.event_log.specs.declared.Pair.the-variants.{Number, NonDigits}
+use Rattle.hex_digits.specs.declared.Digit.{Digit}
+use Rattle.hex_digits.specs.declared.Digit.the-variants.{Value, NonDigit}
+use Rattle.hex_digits.specs.declared.Pair.{Pair}
+use Rattle.hex_digits.specs.declared.Pair.the-variants.{Number, NonDigits}
 
 -- the bytes 0 to 9 (48 to 57) have the values 0 to 9, and A to F (65 to 70) the values 10 to 15
 unfoldable pub digitOf : ℕ → Digit

@@ -1,10 +1,10 @@
--- `event_log::hex::value` meets its contract: it is the value in the byte's class.
+-- `hex_digits::hex::value` meets its contract: it is the value in the byte's class.
 -- Assumes nothing.
 use borrow.Author.Needs.{needs}
 use mathlib.Core.Path.{ap, sym, _∙_}
-use Rattle.event_log.specs.Digits.{valueIn}
-use Rattle.event_log.proofs.hex.value.Statement.{statement}
-use Rattle.event_log.proofs.hex.value.Tie as tie
+use Rattle.hex_digits.specs.Digits.{valueIn}
+use Rattle.hex_digits.proofs.hex.value.Statement.{statement}
+use Rattle.hex_digits.proofs.hex.value.Tie as tie
 
 returns : tie.Need-returns
 returns c = ap valueIn (sym (c .before .v .given .1) ∙ c .before .before .before .classify .ensures)

@@ -6,10 +6,10 @@ use mathlib.Core.Bool.{true, false, _&&_}
 use mathlib.Core.List.{[], _∷_}
 use native.Mathlib.Omega.{arith}
 use Rattle.foundation.proofs.laws.Booleans.{by-test, impossible}
-use Rattle.event_log.specs.declared.Digit.the-variants.{Value, NonDigit}
-use Rattle.event_log.specs.declared.Pair.the-variants.{Number, NonDigits}
-use Rattle.event_log.specs.Digits.{digitOf, isDigit, digitValue, readHex, pairOf}
-use Rattle.event_log.proofs.laws.DigitLaws.{value-small}
+use Rattle.hex_digits.specs.declared.Digit.the-variants.{Value, NonDigit}
+use Rattle.hex_digits.specs.declared.Pair.the-variants.{Number, NonDigits}
+use Rattle.hex_digits.specs.Digits.{digitOf, isDigit, digitValue, readHex, pairOf}
+use Rattle.hex_digits.proofs.laws.DigitLaws.{value-small}
 
 pub digit-below : (byte v : ℕ) → digitOf byte ≡ Value v → v < 16
 digit-below byte v e = rw e at (value-small byte)

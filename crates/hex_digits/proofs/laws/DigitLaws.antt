@@ -15,9 +15,9 @@ use lib.ListN.{length}
 use Rattle.foundation.specs.Lists.{Each, each-nil, each-cons}
 use Rattle.foundation.proofs.laws.Booleans.{by-test}
 use Rattle.foundation.proofs.laws.Lists.{each-head, each-tail}
-use Rattle.event_log.specs.declared.Digit.{Digit}
-use Rattle.event_log.specs.declared.Digit.the-variants.{Value, NonDigit}
-use Rattle.event_log.specs.Digits.{digitOf, isValue, isDigit, valueIn, readHex, digitByte, writeHex}
+use Rattle.hex_digits.specs.declared.Digit.{Digit}
+use Rattle.hex_digits.specs.declared.Digit.the-variants.{Value, NonDigit}
+use Rattle.hex_digits.specs.Digits.{digitOf, isValue, isDigit, valueIn, readHex, digitByte, writeHex}
 
 -- the byte is the one that writes its value, which is below 16
 pub record Writes (byte : ℕ) : Type 0 where

@@ -1,13 +1,13 @@
--- `event_log::hex::classify` meets its contract: each arm's range is decided by the definition's tests.
+-- `hex_digits::hex::classify` meets its contract: each arm's range is decided by the definition's tests.
 -- Assumes nothing.
 use borrow.Author.Needs.{needs}
 use borrow.Author.Tests.{le-leb, lt-leb}
 use mathlib.Core.Path.{ap}
 use native.Mathlib.Omega.{arith}
-use Rattle.event_log.specs.declared.Digit.the-variants.{Value}
-use Rattle.event_log.specs.Digits.{digitOf}
-use Rattle.event_log.proofs.hex.classify.Statement.{statement}
-use Rattle.event_log.proofs.hex.classify.Tie as tie
+use Rattle.hex_digits.specs.declared.Digit.the-variants.{Value}
+use Rattle.hex_digits.specs.Digits.{digitOf}
+use Rattle.hex_digits.proofs.hex.classify.Statement.{statement}
+use Rattle.hex_digits.proofs.hex.classify.Tie as tie
 
 returns : tie.Need-returns
 unfolding digitOf

@@ -1,6 +1,6 @@
-// Hexadecimal digits: 0 to 9 and A to F, never lower case.
+// Reading hexadecimal digits: 0 to 9 and A to F, never lower case.
 ghost use mathlib.Core.Path.{_≡_};
-ghost use Rattle.event_log.specs.Digits.{digitOf, pairOf, digitValue};
+ghost use Rattle.hex_digits.specs.Digits.{digitOf, pairOf, digitValue};
 use crate::Digit;
 use crate::Pair;
 
