@@ -1,9 +1,9 @@
 // An answer compared with the expected one, under the name of its case.
-use event_log::Checked;
 use event_log::check_log;
 use limits::Refusal;
 use limits::number_of;
 use limits::value_of;
+use log_format::Checked;
 use places::Place;
 use replay::CaseCounts;
 use replay::Judged;

@@ -10,7 +10,7 @@ use Rattle.limits.specs.declared.Refusal.the-variants.{InvalidSetting, Misplace
 use Rattle.limits.specs.declared.Settings.{Settings}
 use Rattle.places.specs.declared.Place.{Place}
 use Rattle.places.specs.Places.{place, word}
-use Rattle.event_log.proofs.Examples.{figure1Log}
+use Rattle.log_format.proofs.Examples.{figure1Log}
 use Rattle.replay.specs.declared.Verdict.the-variants.{Underfed, Both}
 use Rattle.discovery.specs.declared.Discovered.{Discovered}
 use Rattle.discovery.specs.declared.Discovered.the-variants.{Ran, Refused}

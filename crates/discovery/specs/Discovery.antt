@@ -10,8 +10,8 @@ use Rattle.limits.specs.declared.Settings.{Settings}
 use Rattle.limits.specs.Refusals.{answer}
 use Rattle.limits.specs.Settings.{settingsFault}
 use Rattle.places.specs.Candidates.{candidates}
-use Rattle.event_log.specs.Lines.{framesOf}
-use Rattle.event_log.specs.Checking.{logRefusal}
+use Rattle.log_format.specs.Lines.{framesOf}
+use Rattle.log_format.specs.Checking.{logRefusal}
 use Rattle.replay.specs.Judgement.{verdict}
 use Rattle.discovery.specs.declared.Discovered.{Discovered}
 use Rattle.discovery.specs.declared.Discovered.the-variants.{Ran, Refused}

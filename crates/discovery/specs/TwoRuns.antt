@@ -13,7 +13,7 @@ use Rattle.places.specs.declared.Place.{Place}
 use Rattle.places.specs.Places.{word, placeOf}
 use Rattle.places.specs.Order.{PlaceBefore}
 use Rattle.places.specs.Candidates.{candidate, candidates}
-use Rattle.event_log.specs.Lines.{framesOf}
+use Rattle.log_format.specs.Lines.{framesOf}
 use Rattle.replay.specs.declared.Verdict.{Verdict}
 use Rattle.replay.specs.declared.Verdict.the-variants.{Fitting, Underfed, Overfed, Both}
 use Rattle.replay.specs.Judgement.{verdict}

@@ -1,14 +1,9 @@
 -- One name for all definitions of this layer and of those below it: a proof by computation says `unfolding opened`.
 -- Assumes nothing.
-use mathlib.Core.List.{flatMap}
-use Rattle.event_log.specs.Frames.{writeFrame, totalCases}
-use Rattle.event_log.specs.Lines.{lines, firstLine, readPairs, frameOf, framesOf}
-use Rattle.event_log.specs.Checking.{malformed, namesUnknown, endpointMisplaced, lineFault, linesFault, emptyFault, textFault, logRefusal, checked}
 use Rattle.event_log.specs.Reading.{countIn, nextPhase, inPairs, activitiesIn, lineChecked, linesChecked}
 use Rattle.event_log.specs.Stepping.{casesAt, pairsLength, traceEnd}
-use Rattle.limits.proofs.Opened.{opened as opened-limits}
-use Rattle.hex_digits.proofs.Opened.{opened as opened-digits}
+use Rattle.log_format.proofs.Opened.{opened as opened-log-format}
 
 unfoldable pub opened : Unit {0}
-unfolding flatMap writeFrame totalCases lines firstLine readPairs frameOf framesOf malformed namesUnknown endpointMisplaced lineFault linesFault emptyFault textFault logRefusal checked countIn nextPhase inPairs activitiesIn lineChecked linesChecked casesAt pairsLength traceEnd opened-limits opened-digits
+unfolding countIn nextPhase inPairs activitiesIn lineChecked linesChecked casesAt pairsLength traceEnd opened-log-format
 opened = tt

@@ -1,13 +1,3 @@
-pub mod Lines
-pub mod PairLaws
-pub mod TraceLaws
-pub mod FirstOf
-pub mod LineFaults
-pub mod FrameLines
-pub mod TextLines
-pub mod LogChecks
-pub mod Written
-pub mod FirstFault
 pub mod Phases
 pub mod Scan
 pub mod Counts
@@ -15,5 +5,3 @@ pub mod LineShape
 pub mod LogPass
 pub mod FrameSteps
 pub mod FrameAt
-pub mod WiderBound
-pub mod NotWritten

@@ -1,5 +1,2 @@
-pub mod Frames
-pub mod Lines
 pub mod Stepping
-pub mod Checking
 pub mod Reading

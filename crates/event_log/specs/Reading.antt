@@ -10,8 +10,8 @@ use Rattle.foundation.specs.Lists.{all}
 use Rattle.limits.specs.Refusals.{answer}
 use Rattle.event_log.specs.declared.Activities.{Activities}
 use Rattle.event_log.specs.declared.Activities.the-variants as Activities
-use Rattle.event_log.specs.declared.Checked.{Checked}
-use Rattle.event_log.specs.declared.Checked.the-variants.{Accepted, Refused}
+use Rattle.log_format.specs.declared.Checked.{Checked}
+use Rattle.log_format.specs.declared.Checked.the-variants.{Accepted, Refused}
 use Rattle.event_log.specs.declared.Count.{Count}
 use Rattle.event_log.specs.declared.Count.the-variants as Count
 use Rattle.event_log.specs.declared.LineChecked.{LineChecked}
@@ -19,9 +19,9 @@ use Rattle.event_log.specs.declared.LineChecked.the-variants.{Sound, Fau
 use Rattle.event_log.specs.declared.Phase.{Phase}
 use Rattle.event_log.specs.declared.Phase.the-variants.{Before, Inside, Complete, Misplaced}
 use Rattle.hex_digits.specs.Digits.{isDigit, readHex}
-use Rattle.event_log.specs.Frames.{countDigits, totalCases}
-use Rattle.event_log.specs.Lines.{Line, readPairs, frameOf, framesOf}
-use Rattle.event_log.specs.Checking.{namesUnknown, endpointMisplaced, lineFault, textFault}
+use Rattle.log_format.specs.Frames.{countDigits, totalCases}
+use Rattle.log_format.specs.Lines.{Line, readPairs, frameOf, framesOf}
+use Rattle.log_format.specs.Checking.{namesUnknown, endpointMisplaced, lineFault, textFault}
 
 -- the case count that a text begins with: four digits that are not 0000
 unfoldable pub countIn : List ℕ → Count

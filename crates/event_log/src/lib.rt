@@ -1,10 +1,11 @@
 // Case logs: document 01, "Settings and the log".
 ghost use mathlib.Core.Path.{_≡_};
-ghost use Rattle.event_log.specs.Checking.{checked};
+ghost use Rattle.log_format.specs.Checking.{checked};
 ghost use Rattle.event_log.specs.Reading.{linesChecked};
 use crate::line::check_line;
 use limits::Refusal;
 use limits::bound_in_range;
+use log_format::Checked;
 
 pub mod frame; // frame.rt: stepping through the frames of a checked log
 pub mod line; // line.rt: one line
@@ -52,12 +53,6 @@ pub enum Activities {
 pub enum LineChecked {
     Sound { next: usize, cases: u16 },
     Faulty(Refusal),
-}
-
-// What checking a log answers: its number of frames and N, or the refusal.
-pub enum Checked {
-    Accepted { frames: usize, cases: u64 },
-    Refused(Refusal),
 }
 
 // Every line of a text, in one pass.

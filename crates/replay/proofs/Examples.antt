@@ -11,10 +11,10 @@ use Rattle.limits.specs.declared.Refusal.the-variants.{InvalidSetting, Malforme
 use Rattle.places.specs.declared.Place.{Place}
 use Rattle.places.specs.Places.{place}
 use Rattle.places.proofs.Examples.{figure1}
-use Rattle.event_log.specs.declared.Checked.the-variants as CheckedAs
-use Rattle.event_log.specs.Frames.{totalCases}
-use Rattle.event_log.specs.Lines.{framesOf}
-use Rattle.event_log.proofs.Examples.{figure1Log}
+use Rattle.log_format.specs.declared.Checked.the-variants as CheckedAs
+use Rattle.log_format.specs.Frames.{totalCases}
+use Rattle.log_format.specs.Lines.{framesOf}
+use Rattle.log_format.proofs.Examples.{figure1Log}
 use Rattle.replay.specs.declared.CaseCounts.{CaseCounts}
 use Rattle.replay.specs.declared.Judged.the-variants as JudgedAs
 use Rattle.replay.specs.declared.Replayed.the-variants as ReplayedAs

@@ -7,8 +7,8 @@ use Rattle.limits.specs.Refusals.{answer}
 use Rattle.limits.specs.Settings.{boundFault, boundAndThresholdFault}
 use Rattle.places.specs.declared.Place.{Place}
 use Rattle.places.specs.Places.{placeFault}
-use Rattle.event_log.specs.Lines.{framesOf}
-use Rattle.event_log.specs.Checking.{logRefusal}
+use Rattle.log_format.specs.Lines.{framesOf}
+use Rattle.log_format.specs.Checking.{logRefusal}
 use Rattle.replay.specs.declared.Judged.{Judged}
 use Rattle.replay.specs.declared.Judged.the-variants.{Counted}
 use Rattle.replay.specs.declared.Judged.the-variants as JudgedAs

@@ -6,7 +6,7 @@ use mathlib.Core.List.{List}
 use lib.Dec.{ltb}
 use Rattle.foundation.specs.Lists.{keep}
 use Rattle.places.specs.declared.Place.{Place}
-use Rattle.event_log.specs.Frames.{Frame, totalCases}
+use Rattle.log_format.specs.Frames.{Frame, totalCases}
 use Rattle.replay.specs.declared.CaseCounts.{CaseCounts}
 use Rattle.replay.specs.declared.Verdict.{Verdict}
 use Rattle.replay.specs.declared.Verdict.the-variants.{Fitting, Underfed, Overfed, Both}

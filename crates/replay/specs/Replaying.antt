@@ -12,12 +12,12 @@ use Rattle.limits.specs.Refusals.{given, answer}
 use Rattle.places.specs.declared.Place.{Place}
 use Rattle.places.specs.Sets.{has}
 use Rattle.places.specs.Places.{placeFault}
-use Rattle.event_log.specs.declared.Checked.{Checked}
-use Rattle.event_log.specs.declared.Checked.the-variants.{Accepted, Refused}
+use Rattle.log_format.specs.declared.Checked.{Checked}
+use Rattle.log_format.specs.declared.Checked.the-variants.{Accepted, Refused}
 use Rattle.hex_digits.specs.Digits.{digitValue}
-use Rattle.event_log.specs.Frames.{totalCases}
-use Rattle.event_log.specs.Lines.{framesOf}
-use Rattle.event_log.specs.Checking.{logRefusal}
+use Rattle.log_format.specs.Frames.{totalCases}
+use Rattle.log_format.specs.Lines.{framesOf}
+use Rattle.log_format.specs.Checking.{logRefusal}
 use Rattle.replay.specs.declared.CaseCounts.{CaseCounts}
 use Rattle.replay.specs.declared.Tokens.{Tokens}
 use Rattle.replay.specs.Balance.{smaller, leastBalance, lastBalance}

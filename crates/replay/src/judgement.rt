@@ -2,8 +2,8 @@
 ghost use mathlib.Core.Path.{_≡_};
 ghost use Prim.Native.Nat.{_+_, _^_, _≤_, _<_};
 ghost use Rattle.limits.specs.Settings.{mostActivities};
-ghost use Rattle.event_log.specs.Frames.{WrittenLog};
-ghost use Rattle.event_log.specs.Lines.{framesOf};
+ghost use Rattle.log_format.specs.Frames.{WrittenLog};
+ghost use Rattle.log_format.specs.Lines.{framesOf};
 ghost use Rattle.replay.specs.Judgement.{caseCounts, exceeds, verdictOf};
 ghost use Rattle.replay.specs.Replaying.{withCases, casesOf};
 use crate::CaseCounts;

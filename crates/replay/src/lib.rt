@@ -6,12 +6,12 @@ use crate::judgement::count_cases;
 use crate::judgement::verdict_on;
 use crate::trace::replay_trace;
 use event_log::COUNT_DIGITS;
-use event_log::Checked;
 use event_log::check_lines;
 use event_log::frame::trace_end;
 use limits::Refusal;
 use limits::bound_and_threshold_in_range;
 use limits::bound_in_range;
+use log_format::Checked;
 use places::Place;
 use places::place_under;
 

@@ -6,7 +6,7 @@ ghost use lib.ListN.{length};
 ghost use mathlib.Core.Bool.{true};
 ghost use Rattle.foundation.specs.Lists.{all};
 ghost use Rattle.hex_digits.specs.Digits.{isDigit, digitValue};
-ghost use Rattle.event_log.specs.Frames.{mostEvents};
+ghost use Rattle.log_format.specs.Frames.{mostEvents};
 ghost use Rattle.replay.specs.Replaying.{afterEvent, afterTrace, codesIn};
 use crate::Tokens;
 use places::Place;

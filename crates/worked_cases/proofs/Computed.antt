@@ -9,7 +9,7 @@ use lib.Dec.{lit<}
 use Rattle.limits.specs.declared.Refusal.the-variants.{MalformedFrame, UnknownActivity, MisplacedEndpoint, EmptyLog}
 use Rattle.limits.specs.Refusals.{answer}
 use Rattle.places.specs.Candidates.{candidates}
-use Rattle.event_log.specs.Lines.{framesOf}
+use Rattle.log_format.specs.Lines.{framesOf}
 use Rattle.replay.specs.Judgement.{verdict}
 use Rattle.discovery.specs.declared.Discovered.the-variants.{Ran, Refused}
 use Rattle.discovery.specs.Search.{Progress, holding, stateOf}

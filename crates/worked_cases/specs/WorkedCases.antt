@@ -9,9 +9,9 @@ use Rattle.limits.specs.declared.Refusal.{Refusal}
 use Rattle.limits.specs.declared.Settings.{Settings}
 use Rattle.limits.specs.Refusals.{number, value}
 use Rattle.places.specs.Places.{place, word}
-use Rattle.event_log.specs.declared.Checked.{Checked}
-use Rattle.event_log.specs.declared.Checked.the-variants.{Accepted, Refused}
-use Rattle.event_log.specs.Checking.{checked}
+use Rattle.log_format.specs.declared.Checked.{Checked}
+use Rattle.log_format.specs.declared.Checked.the-variants.{Accepted, Refused}
+use Rattle.log_format.specs.Checking.{checked}
 use Rattle.replay.specs.declared.Judged.the-variants.{Counted}
 use Rattle.replay.specs.declared.Replayed.the-variants.{Balances}
 use Rattle.replay.specs.declared.Verdict.the-variants.{Fitting, Overfed}

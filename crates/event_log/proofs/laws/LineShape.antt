@@ -21,15 +21,15 @@ use Rattle.event_log.specs.declared.Activities.the-variants as Activitie
 use Rattle.event_log.specs.declared.Count.the-variants as Count
 use Rattle.event_log.specs.declared.LineChecked.the-variants.{Sound, Faulty}
 use Rattle.hex_digits.specs.Digits.{isDigit, readHex, lineFeed}
-use Rattle.event_log.specs.Frames.{countDigits, mostEvents}
-use Rattle.event_log.specs.Lines.{Line, firstLine, readPairs, frameOf}
-use Rattle.event_log.specs.Checking.{malformed, namesUnknown, endpointMisplaced}
+use Rattle.log_format.specs.Frames.{countDigits, mostEvents}
+use Rattle.log_format.specs.Lines.{Line, firstLine, readPairs, frameOf}
+use Rattle.log_format.specs.Checking.{malformed, namesUnknown, endpointMisplaced}
 use Rattle.event_log.specs.Reading.{countIn, inPairs, activitiesIn, lineChecked}
-use Rattle.event_log.proofs.laws.Lines.{first-none, first-feed, first-byte}
+use Rattle.log_format.proofs.laws.Lines.{first-none, first-feed, first-byte}
 use Rattle.hex_digits.proofs.laws.DigitLaws.{EachDigit}
-use Rattle.event_log.proofs.laws.TextLines.{digit-no-feed}
-use Rattle.event_log.proofs.laws.LineFaults.{FaultOrder, fault-order}
-use Rattle.event_log.proofs.laws.FrameLines.{WellFormed, well-formed, not-malformed, trace-length}
+use Rattle.log_format.proofs.laws.TextLines.{digit-no-feed}
+use Rattle.log_format.proofs.laws.LineFaults.{FaultOrder, fault-order}
+use Rattle.log_format.proofs.laws.FrameLines.{WellFormed, well-formed, not-malformed, trace-length}
 
 -- a text begins with the bytes of its first line
 first-prefix : (text : List ℕ) → (more : List ℕ) × (text ≡ firstLine text .bytes ++ more)

@@ -1,8 +1,10 @@
 -- Checking a text's lines in one pass. Where a pass stands at some line with so many cases counted, the lines that are left decide: the first
--- is refused, or the pass goes on at the line after it; with no line left, what was counted is the answer.
+-- is refused, or the pass goes on at the line after it; with no line left, what was counted is the answer. Where the checks before those of
+-- the lines pass, the lines alone decide what checking the log answers.
 -- Assumes nothing.
 use Prim.Native.Nat.{ℕ, suc, _+_, _≤_, _<_, _^_}
 use mathlib.Core.Path.{_≡_, refl}
+use mathlib.Core.Bool.{true}
 use mathlib.Core.List.{List, [], _∷_, map}
 use mathlib.Core.Option.{Option, none, some}
 use native.Mathlib.Nat.{zero-add, add-zero, add-assoc, add-suc}
@@ -13,16 +15,23 @@ use lib.Seq.{drop-drop}
 use Rattle.foundation.proofs.laws.Booleans.{impossible}
 use Rattle.limits.specs.declared.Refusal.{Refusal}
 use Rattle.limits.specs.Refusals.{answer}
-use Rattle.event_log.specs.declared.Checked.{Checked}
-use Rattle.event_log.specs.declared.Checked.the-variants.{Accepted, Refused}
+use Rattle.limits.specs.Settings.{boundInRange}
+use Rattle.log_format.specs.declared.Checked.{Checked}
+use Rattle.log_format.specs.declared.Checked.the-variants.{Accepted, Refused}
 use Rattle.event_log.specs.declared.LineChecked.the-variants.{Sound, Faulty}
-use Rattle.event_log.specs.Frames.{countDigits, mostFrames, totalCases}
-use Rattle.event_log.specs.Lines.{Line, lines, firstLine, frameOf, framesOf}
-use Rattle.event_log.specs.Checking.{lineFault, linesFault, textFault}
+use Rattle.log_format.specs.Frames.{countDigits, mostFrames, totalCases}
+use Rattle.log_format.specs.Lines.{Line, lines, firstLine, frameOf, framesOf}
+use Rattle.log_format.specs.Checking.{lineFault, linesFault, textFault, checked}
 use Rattle.event_log.specs.Reading.{lineChecked, linesChecked}
-use Rattle.event_log.proofs.laws.Lines.{lines-step}
-use Rattle.event_log.proofs.laws.FirstOf.{only-one}
-use Rattle.event_log.proofs.laws.FrameLines.{no-fault-framed}
+use Rattle.log_format.proofs.laws.Lines.{lines-step}
+use Rattle.log_format.proofs.laws.FirstOf.{only-one}
+use Rattle.log_format.proofs.laws.FrameLines.{no-fault-framed}
+use Rattle.log_format.proofs.laws.LogChecks.{bound-passes, lines-decide}
+
+-- checking a log of some byte under a bound in its range is checking its lines
+pub lines-checked : (A : ℕ) (text : List ℕ) → boundInRange A ≡ true → 1 ≤ length text → checked A text ≡ linesChecked A text
+unfolding checked linesChecked
+lines-checked A text in-range some-byte = rw (bound-passes A .1 in-range, lines-decide A text some-byte)
 
 -- what a pass answers that stands before these lines, with `line` lines and `cases` cases behind it
 unfoldable pub pass : ℕ → ℕ → ℕ → List Line → Checked

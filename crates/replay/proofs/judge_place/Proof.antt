@@ -7,10 +7,10 @@ use mathlib.Core.Bool.{_&&_, and-eq-true-iff}
 use borrow.Author.Needs.{needs}
 use borrow.Author.Tests.{leb-true}
 use Rattle.limits.specs.Settings.{mostActivities, boundInRange, thresholdInRange}
-use Rattle.event_log.specs.Frames.{WrittenLog}
-use Rattle.event_log.specs.Lines.{framesOf}
-use Rattle.event_log.proofs.laws.Written.{bound-most}
-use Rattle.event_log.proofs.laws.WiderBound.{log-wider}
+use Rattle.log_format.specs.Frames.{WrittenLog}
+use Rattle.log_format.specs.Lines.{framesOf}
+use Rattle.log_format.proofs.laws.Written.{bound-most}
+use Rattle.log_format.proofs.laws.WiderBound.{log-wider}
 use Rattle.replay.proofs.laws.Arguments.{Passed, accepted, judge-refused, judge-accepted}
 use Rattle.replay.proofs.laws.FrameByFrame.{verdict-counted, counts-bounded}
 use Rattle.replay.proofs.judge_place.Statement.{statement}

@@ -16,11 +16,11 @@ use Rattle.limits.specs.Refusals.{answer}
 use Rattle.limits.specs.Settings.{boundFault, boundAndThresholdFault}
 use Rattle.places.specs.declared.Place.{Place}
 use Rattle.places.specs.Places.{placeFault}
-use Rattle.event_log.specs.Frames.{Frame, FrameUnder, WrittenLog, mostEvents, totalCases}
-use Rattle.event_log.specs.Lines.{framesOf}
-use Rattle.event_log.specs.Checking.{logRefusal}
-use Rattle.event_log.proofs.laws.LogChecks.{log-passes}
-use Rattle.event_log.proofs.laws.Written.{text-written}
+use Rattle.log_format.specs.Frames.{Frame, FrameUnder, WrittenLog, mostEvents, totalCases}
+use Rattle.log_format.specs.Lines.{framesOf}
+use Rattle.log_format.specs.Checking.{logRefusal}
+use Rattle.log_format.proofs.laws.LogChecks.{log-passes}
+use Rattle.log_format.proofs.laws.Written.{text-written}
 use Rattle.replay.specs.declared.CaseCounts.{CaseCounts}
 use Rattle.replay.specs.declared.Judged.the-variants.{Counted}
 use Rattle.replay.specs.declared.Judged.the-variants as JudgedAs

@@ -14,14 +14,14 @@ use Rattle.limits.specs.Refusals.{given, firstRefusal}
 use Rattle.limits.specs.Settings.{boundInRange, thresholdInRange, boundFault, boundAndThresholdFault}
 use Rattle.places.specs.declared.Place.{Place}
 use Rattle.places.specs.Places.{placeUnder, placeFault}
-use Rattle.event_log.specs.declared.Checked.the-variants.{Accepted, Refused}
-use Rattle.event_log.specs.Frames.{WrittenLog, totalCases}
-use Rattle.event_log.specs.Lines.{framesOf}
-use Rattle.event_log.specs.Checking.{emptyFault, logRefusal}
+use Rattle.log_format.specs.declared.Checked.the-variants.{Accepted, Refused}
+use Rattle.log_format.specs.Frames.{WrittenLog, totalCases}
+use Rattle.log_format.specs.Lines.{framesOf}
+use Rattle.log_format.specs.Checking.{emptyFault, logRefusal}
 use Rattle.event_log.specs.Reading.{linesChecked}
-use Rattle.event_log.proofs.laws.FirstOf.{given-none}
-use Rattle.event_log.proofs.laws.LogChecks.{lines-decide, log-passes, answer-refused, answer-accepted}
-use Rattle.event_log.proofs.laws.Written.{text-written}
+use Rattle.log_format.proofs.laws.FirstOf.{given-none}
+use Rattle.log_format.proofs.laws.LogChecks.{lines-decide, log-passes, answer-refused, answer-accepted}
+use Rattle.log_format.proofs.laws.Written.{text-written}
 use Rattle.replay.specs.declared.Judged.the-variants.{Counted}
 use Rattle.replay.specs.declared.Judged.the-variants as JudgedAs
 use Rattle.replay.specs.declared.Replayed.the-variants.{Balances}

@@ -12,7 +12,7 @@ use mathlib.Core.List.{List, _∷_, _++_, map}
 use Rattle.foundation.specs.Lists.{sum}
 use Rattle.foundation.proofs.laws.Sums.{sum-append, sum-add, sum-keep}
 use Rattle.places.specs.declared.Place.{Place}
-use Rattle.event_log.specs.Frames.{Frame, totalCases}
+use Rattle.log_format.specs.Frames.{Frame, totalCases}
 use Rattle.replay.specs.Balance.{underfeeds, overfeeds}
 use Rattle.replay.specs.Judgement.{casesWhere, caseCounts, underfedCases, overfedCases, verdictOf, verdict}
 

@@ -14,7 +14,7 @@ use mir.ValLaws.{toZ-ofZ}
 use Rattle.foundation.proofs.laws.Differences.{mag-add, mag-sub}
 use Rattle.places.specs.declared.Place.{Place}
 use Rattle.places.specs.Sets.{has}
-use Rattle.event_log.specs.Frames.{mostEvents}
+use Rattle.log_format.specs.Frames.{mostEvents}
 use Rattle.replay.specs.declared.Tokens.{Tokens}
 use Rattle.replay.specs.Replaying.{afterEvent}
 

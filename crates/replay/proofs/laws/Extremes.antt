@@ -18,7 +18,7 @@ use Rattle.foundation.proofs.laws.Sums.{sum-le-length}
 use Rattle.foundation.proofs.laws.Integers.{leZ-refl, leZ-trans, leZ-total, difference-le}
 use Rattle.places.specs.declared.Place.{Place}
 use Rattle.places.specs.Sets.{has}
-use Rattle.event_log.specs.Frames.{mostEvents}
+use Rattle.log_format.specs.Frames.{mostEvents}
 use Rattle.replay.specs.Balance.{count, balanceAt, smaller, leastOf, leastBalance, lastBalance}
 
 -- the smaller of two numbers is at most each

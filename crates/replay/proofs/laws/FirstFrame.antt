@@ -11,10 +11,10 @@ use Rattle.foundation.proofs.laws.Each.{each-all}
 use Rattle.foundation.proofs.laws.Lists.{each-head}
 use Rattle.limits.specs.Settings.{mostActivities}
 use Rattle.hex_digits.specs.Digits.{isDigit}
-use Rattle.event_log.specs.Frames.{Frame, FrameUnder, WrittenLog, countDigits, mostEvents, writeFrame}
-use Rattle.event_log.specs.Lines.{framesOf}
+use Rattle.log_format.specs.Frames.{Frame, FrameUnder, WrittenLog, countDigits, mostEvents, writeFrame}
+use Rattle.log_format.specs.Lines.{framesOf}
 use Rattle.event_log.specs.Stepping.{traceEnd}
-use Rattle.event_log.proofs.laws.PairLaws.{length-pairs, pairs-digits}
+use Rattle.log_format.proofs.laws.PairLaws.{length-pairs, pairs-digits}
 use Rattle.event_log.proofs.laws.FrameAt.{frame-end, frame-part, frame-inside}
 use Rattle.replay.specs.Answers.{firstTrace}
 use Rattle.replay.specs.Replaying.{codesIn}

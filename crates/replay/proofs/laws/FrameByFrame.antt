@@ -12,7 +12,7 @@ use lib.Signed.{ltZ}
 use lib.ListN.{length}
 use Rattle.foundation.specs.Lists.{Each, each-nil, each-cons, foldl}
 use Rattle.places.specs.declared.Place.{Place}
-use Rattle.event_log.specs.Frames.{Frame, FrameUnder, WrittenLog, countDigits, totalCases}
+use Rattle.log_format.specs.Frames.{Frame, FrameUnder, WrittenLog, countDigits, totalCases}
 use Rattle.replay.specs.declared.CaseCounts.{CaseCounts}
 use Rattle.replay.specs.declared.Tokens.{Tokens}
 use Rattle.replay.specs.Balance.{underfeeds, overfeeds}

@@ -13,10 +13,10 @@ use Rattle.foundation.proofs.laws.Lists.{each-head, each-tail}
 use Rattle.limits.specs.Settings.{mostActivities}
 use Rattle.places.specs.declared.Place.{Place}
 use Rattle.hex_digits.specs.Digits.{isDigit}
-use Rattle.event_log.specs.Frames.{Frame, FrameUnder, WrittenLog, countDigits, mostEvents, mostFrames, writeFrame, totalCases}
-use Rattle.event_log.specs.Lines.{framesOf}
+use Rattle.log_format.specs.Frames.{Frame, FrameUnder, WrittenLog, countDigits, mostEvents, mostFrames, writeFrame, totalCases}
+use Rattle.log_format.specs.Lines.{framesOf}
 use Rattle.event_log.specs.Stepping.{casesAt, traceEnd}
-use Rattle.event_log.proofs.laws.PairLaws.{length-pairs, pairs-digits}
+use Rattle.log_format.proofs.laws.PairLaws.{length-pairs, pairs-digits}
 use Rattle.event_log.proofs.laws.FrameAt.{frame-cases, frame-end, frame-part, frame-inside, frame-next}
 use Rattle.replay.specs.declared.CaseCounts.{CaseCounts}
 use Rattle.replay.specs.Judgement.{caseCounts}

@@ -22,7 +22,7 @@ use Rattle.places.specs.declared.Place.{Place}
 use Rattle.places.specs.Sets.{has, within}
 use Rattle.places.specs.Places.{lighter}
 use Rattle.places.proofs.laws.Lighter.{within-has, lighter-sets}
-use Rattle.event_log.specs.Frames.{Frame, WrittenLog, totalCases}
+use Rattle.log_format.specs.Frames.{Frame, WrittenLog, totalCases}
 use Rattle.replay.specs.Balance.{count, balanceAt, leastBalance, lastBalance, underfeeds, overfeeds}
 use Rattle.replay.specs.Judgement.{casesWhere, caseCounts, underfedCases, overfedCases, exceeds}
 use Rattle.replay.proofs.laws.Extremes.{least-reached, least-at-most}

@@ -6,8 +6,8 @@ use native.Mathlib.Omega.{arith}
 use mir.Syntax.{w16}
 use mir.ValLaws.{toZ-ofZ}
 use borrow.Author.Needs.{needs}
-use Rattle.event_log.proofs.laws.Written.{bound-most}
-use Rattle.event_log.proofs.laws.WiderBound.{log-wider}
+use Rattle.log_format.proofs.laws.Written.{bound-most}
+use Rattle.log_format.proofs.laws.WiderBound.{log-wider}
 use Rattle.limits.specs.Settings.{boundInRange}
 use Rattle.replay.specs.declared.Replayed.the-variants.{Balances}
 use Rattle.replay.proofs.laws.Arguments.{Passed, accepted, replay-refused, replay-accepted}

@@ -10,7 +10,7 @@ use Rattle.foundation.specs.Lists.{Each, each-nil, each-cons}
 use Rattle.foundation.proofs.laws.Lists.{each-head, each-tail}
 use Rattle.foundation.proofs.laws.Each.{each-append}
 use Rattle.hex_digits.specs.Digits.{writeHex}
-use Rattle.event_log.specs.Lines.{readPairs}
+use Rattle.log_format.specs.Lines.{readPairs}
 use Rattle.hex_digits.proofs.laws.DigitLaws.{EachDigit, read-write, write-read, write-digits}
 
 pub read-pairs : {trace : List ℕ} → Each (λ (a : ℕ). a < 256) trace → readPairs (flatMap (writeHex 2) trace) ≡ trace

@@ -6,7 +6,7 @@ use mathlib.Core.List.{List, [], _∷_, map}
 use lib.Dec.{eqb}
 use lib.ListN.{take, drop, getD}
 use Rattle.hex_digits.specs.Digits.{readHex, lineFeed}
-use Rattle.event_log.specs.Frames.{Frame, countDigits}
+use Rattle.log_format.specs.Frames.{Frame, countDigits}
 
 -- the bytes before a line feed; the last line of a text may lack it
 pub record Line : Type 0 where

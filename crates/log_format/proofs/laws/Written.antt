@@ -15,16 +15,16 @@ use lib.ListN.{length, length-map}
 use Rattle.foundation.specs.Lists.{Each, each-nil, each-cons}
 use Rattle.foundation.proofs.laws.Each.{each-imply, each-map}
 use Rattle.limits.specs.Settings.{mostActivities, boundInRange, boundFault}
-use Rattle.event_log.specs.declared.Checked.the-variants.{Accepted}
+use Rattle.log_format.specs.declared.Checked.the-variants.{Accepted}
 use Rattle.hex_digits.specs.Digits.{writeHex}
-use Rattle.event_log.specs.Frames.{Frame, FrameUnder, WrittenLog, mostFrames, writeFrame, totalCases}
-use Rattle.event_log.specs.Lines.{Line, lines, frameOf, framesOf}
-use Rattle.event_log.specs.Checking.{lineFault, linesFault, textFault, logRefusal, checked}
-use Rattle.event_log.proofs.laws.Lines.{lines-step}
-use Rattle.event_log.proofs.laws.FirstOf.{first-none}
-use Rattle.event_log.proofs.laws.LogChecks.{log-passes, bound-passes, lines-decide, answer-accepted}
-use Rattle.event_log.proofs.laws.FrameLines.{frameLine, FramedLine, under-back, frame-no-fault, no-fault-framed}
-use Rattle.event_log.proofs.laws.TextLines.{lineText, text-of-lines, written-text, lines-written}
+use Rattle.log_format.specs.Frames.{Frame, FrameUnder, WrittenLog, mostFrames, writeFrame, totalCases}
+use Rattle.log_format.specs.Lines.{Line, lines, frameOf, framesOf}
+use Rattle.log_format.specs.Checking.{lineFault, linesFault, textFault, logRefusal, checked}
+use Rattle.log_format.proofs.laws.Lines.{lines-step}
+use Rattle.log_format.proofs.laws.FirstOf.{first-none}
+use Rattle.log_format.proofs.laws.LogChecks.{log-passes, bound-passes, lines-decide, answer-accepted}
+use Rattle.log_format.proofs.laws.FrameLines.{frameLine, FramedLine, under-back, frame-no-fault, no-fault-framed}
+use Rattle.log_format.proofs.laws.TextLines.{lineText, text-of-lines, written-text, lines-written}
 
 -- a bound in its range is at most what a set can name, and so one that two digits can write
 pub bound-most : (A : ℕ) → boundInRange A ≡ true → A ≤ mostActivities

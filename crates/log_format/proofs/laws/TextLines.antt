@@ -10,10 +10,10 @@ use lib.Dec.{eqb}
 use Rattle.foundation.specs.Lists.{each-nil, each-cons}
 use Rattle.foundation.proofs.laws.Booleans.{by-test}
 use Rattle.hex_digits.specs.Digits.{digitOf, isDigit, lineFeed}
-use Rattle.event_log.specs.Frames.{Frame, writeFrame}
-use Rattle.event_log.specs.Lines.{Line, putFirst, lines}
+use Rattle.log_format.specs.Frames.{Frame, writeFrame}
+use Rattle.log_format.specs.Lines.{Line, putFirst, lines}
 use Rattle.hex_digits.proofs.laws.DigitLaws.{EachDigit}
-use Rattle.event_log.proofs.laws.FrameLines.{frameLine, frame-digits}
+use Rattle.log_format.proofs.laws.FrameLines.{frameLine, frame-digits}
 
 -- the bytes of a line with the line feed that ends it, if one does
 abbrev pub lineText : Line → List ℕ

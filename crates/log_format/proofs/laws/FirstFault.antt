@@ -12,13 +12,13 @@ use mathlib.Core.Option.{none, some, Option·none-ne-some}
 use lib.ListN.{length, getD}
 use Rattle.limits.specs.declared.Refusal.{Refusal}
 use Rattle.limits.specs.Settings.{boundInRange}
-use Rattle.event_log.specs.declared.Checked.the-variants.{Refused}
-use Rattle.event_log.specs.Frames.{totalCases}
-use Rattle.event_log.specs.Lines.{Line, lines, framesOf}
-use Rattle.event_log.specs.Checking.{lineFault, linesFault, textFault, checked}
-use Rattle.event_log.proofs.laws.FirstOf.{first-some}
-use Rattle.event_log.proofs.laws.LogChecks.{bound-passes, lines-decide, answer-refused}
-use Rattle.event_log.proofs.laws.LineFaults.{NamesLine, fault-order, names-line}
+use Rattle.log_format.specs.declared.Checked.the-variants.{Refused}
+use Rattle.log_format.specs.Frames.{totalCases}
+use Rattle.log_format.specs.Lines.{Line, lines, framesOf}
+use Rattle.log_format.specs.Checking.{lineFault, linesFault, textFault, checked}
+use Rattle.log_format.proofs.laws.FirstOf.{first-some}
+use Rattle.log_format.proofs.laws.LogChecks.{bound-passes, lines-decide, answer-refused}
+use Rattle.log_format.proofs.laws.LineFaults.{NamesLine, fault-order, names-line}
 
 -- the line with index k; past the last, one with no byte
 abbrev pub lineAt : List Line → ℕ → Line

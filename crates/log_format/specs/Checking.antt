@@ -11,11 +11,11 @@ use Rattle.limits.specs.declared.Refusal.{Refusal}
 use Rattle.limits.specs.declared.Refusal.the-variants.{MalformedFrame, UnknownActivity, MisplacedEndpoint, TooLarge, EmptyLog}
 use Rattle.limits.specs.Refusals.{given, firstOf, firstRefusal, answer}
 use Rattle.limits.specs.Settings.{boundFault}
-use Rattle.event_log.specs.declared.Checked.{Checked}
-use Rattle.event_log.specs.declared.Checked.the-variants.{Accepted, Refused}
+use Rattle.log_format.specs.declared.Checked.{Checked}
+use Rattle.log_format.specs.declared.Checked.the-variants.{Accepted, Refused}
 use Rattle.hex_digits.specs.Digits.{isDigit}
-use Rattle.event_log.specs.Frames.{countDigits, mostEvents, mostFrames, totalCases}
-use Rattle.event_log.specs.Lines.{Line, lines, frameOf, framesOf}
+use Rattle.log_format.specs.Frames.{countDigits, mostEvents, mostFrames, totalCases}
+use Rattle.log_format.specs.Lines.{Line, lines, frameOf, framesOf}
 
 -- number 2, broken frame. The shortest frame has its count and two activities
 unfoldable pub malformed : Line → Bool

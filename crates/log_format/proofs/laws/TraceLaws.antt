@@ -15,8 +15,8 @@ use Rattle.foundation.specs.Lists.{Each, any}
 use Rattle.foundation.proofs.laws.Booleans.{or-false-parts}
 use Rattle.foundation.proofs.laws.Each.{each-imply, none-each, each-none}
 use Rattle.foundation.proofs.laws.Lists.{last-split}
-use Rattle.event_log.specs.Frames.{Behaviour}
-use Rattle.event_log.specs.Checking.{namesUnknown, endpointMisplaced}
+use Rattle.log_format.specs.Frames.{Behaviour}
+use Rattle.log_format.specs.Checking.{namesUnknown, endpointMisplaced}
 
 module _ (A : ℕ) where
   pub all-known : (trace : List ℕ) → namesUnknown A trace ≡ false → Each (λ (a : ℕ). a < A) trace

@@ -4,7 +4,7 @@ use Prim.Native.Nat.{ℕ, _≤_}
 use native.Mathlib.Omega.{arith}
 use mathlib.Core.List.{List}
 use Rattle.foundation.proofs.laws.Each.{each-imply}
-use Rattle.event_log.specs.Frames.{Frame, FrameUnder, WrittenLog}
+use Rattle.log_format.specs.Frames.{Frame, FrameUnder, WrittenLog}
 
 module _ {A B : ℕ} (wider : A ≤ B) where
   frame-wider : (f : Frame) → FrameUnder A f → FrameUnder B f

@@ -11,7 +11,7 @@ use lib.Dec.{eqb}
 use lib.ListN.{length, drop, getD}
 use Rattle.foundation.proofs.laws.Booleans.{by-test}
 use Rattle.hex_digits.specs.Digits.{lineFeed}
-use Rattle.event_log.specs.Lines.{Line, putFirst, lines, firstLine}
+use Rattle.log_format.specs.Lines.{Line, putFirst, lines, firstLine}
 
 -- a line with one byte more in front
 abbrev pub withByte : ℕ → Line → Line

@@ -8,8 +8,8 @@ use mathlib.Core.List.{List, [], _∷_, _++_, nil≢cons, cons≢nil, head-eq-of
 use lib.ListN.{length}
 use Rattle.foundation.specs.Lists.{Each}
 use Rattle.foundation.proofs.laws.Lists.{each-head, each-tail}
-use Rattle.event_log.specs.Frames.{Behaviour, FrameUnder, WrittenLog}
-use Rattle.event_log.proofs.Examples.{frame}
+use Rattle.log_format.specs.Frames.{Behaviour, FrameUnder, WrittenLog}
+use Rattle.log_format.proofs.Examples.{frame}
 
 module _ (A : ℕ) where
   pub no-frames : (text : List ℕ) → WrittenLog A [] text → ⊥

@@ -15,13 +15,13 @@ use Rattle.foundation.specs.Lists.{Each, all}
 use Rattle.foundation.proofs.laws.Booleans.{or-false-parts}
 use Rattle.foundation.proofs.laws.Each.{each-imply, each-append, each-take, each-drop, all-each, each-all}
 use Rattle.hex_digits.specs.Digits.{isDigit, readHex, writeHex}
-use Rattle.event_log.specs.Frames.{Frame, FrameUnder, countDigits, mostFrames}
-use Rattle.event_log.specs.Lines.{Line, readPairs, frameOf}
-use Rattle.event_log.specs.Checking.{malformed, namesUnknown, endpointMisplaced, lineFault}
+use Rattle.log_format.specs.Frames.{Frame, FrameUnder, countDigits, mostFrames}
+use Rattle.log_format.specs.Lines.{Line, readPairs, frameOf}
+use Rattle.log_format.specs.Checking.{malformed, namesUnknown, endpointMisplaced, lineFault}
 use Rattle.hex_digits.proofs.laws.DigitLaws.{EachDigit, read-small, read-write, write-read, length-write, write-digits}
-use Rattle.event_log.proofs.laws.PairLaws.{read-pairs, write-pairs, length-pairs, length-read-pairs, pairs-digits}
-use Rattle.event_log.proofs.laws.TraceLaws.{all-known, none-unknown, placed-behaviour, behaviour-placed}
-use Rattle.event_log.proofs.laws.LineFaults.{Readable, FaultOrder, no-fault, fault-order}
+use Rattle.log_format.proofs.laws.PairLaws.{read-pairs, write-pairs, length-pairs, length-read-pairs, pairs-digits}
+use Rattle.log_format.proofs.laws.TraceLaws.{all-known, none-unknown, placed-behaviour, behaviour-placed}
+use Rattle.log_format.proofs.laws.LineFaults.{Readable, FaultOrder, no-fault, fault-order}
 
 -- the line that a frame is written as
 abbrev pub frameLine : Frame → Line

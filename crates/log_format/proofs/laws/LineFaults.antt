@@ -14,9 +14,9 @@ use Rattle.foundation.proofs.laws.Booleans.{by-test}
 use Rattle.limits.specs.declared.Refusal.{Refusal}
 use Rattle.limits.specs.declared.Refusal.the-variants.{MalformedFrame, UnknownActivity, MisplacedEndpoint, TooLarge}
 use Rattle.limits.specs.Refusals.{number, value, given, firstOf}
-use Rattle.event_log.specs.Frames.{mostEvents, mostFrames}
-use Rattle.event_log.specs.Lines.{Line, frameOf}
-use Rattle.event_log.specs.Checking.{malformed, namesUnknown, endpointMisplaced, lineFault}
+use Rattle.log_format.specs.Frames.{mostEvents, mostFrames}
+use Rattle.log_format.specs.Lines.{Line, frameOf}
+use Rattle.log_format.specs.Checking.{malformed, namesUnknown, endpointMisplaced, lineFault}
 
 -- the line passes the checks before those of its trace's codes
 pub record Readable (k : ℕ) (l : Line) : Type 0 where

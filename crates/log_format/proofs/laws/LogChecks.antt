@@ -16,10 +16,9 @@ use Rattle.limits.specs.declared.Refusal.{Refusal}
 use Rattle.limits.specs.declared.Refusal.the-variants.{InvalidSetting, EmptyLog}
 use Rattle.limits.specs.Refusals.{firstRefusal, answer}
 use Rattle.limits.specs.Settings.{boundInRange, boundFault}
-use Rattle.event_log.specs.declared.Checked.the-variants.{Accepted, Refused}
-use Rattle.event_log.specs.Checking.{emptyFault, textFault, logRefusal, checked}
-use Rattle.event_log.specs.Reading.{linesChecked}
-use Rattle.event_log.proofs.laws.FirstOf.{given-none, only-one, first-none}
+use Rattle.log_format.specs.declared.Checked.the-variants.{Accepted, Refused}
+use Rattle.log_format.specs.Checking.{emptyFault, textFault, logRefusal, checked}
+use Rattle.log_format.proofs.laws.FirstOf.{given-none, only-one, first-none}
 
 pub bound-passes : (A : ℕ) → (boundFault A ≡ none) ↔ (boundInRange A ≡ true)
 unfolding boundFault
@@ -71,10 +70,6 @@ module _ (A : ℕ) (text : List ℕ) where
     pub empty-refused : length text ≡ 0 → checked A text ≡ Refused EmptyLog
     unfolding checked boundFault logRefusal firstRefusal emptyFault
     empty-refused e = rw (in-range, e)
-
-    pub lines-checked : 1 ≤ length text → checked A text ≡ linesChecked A text
-    unfolding checked linesChecked
-    lines-checked some-byte = rw (bound-passes A .1 in-range, lines-decide A text some-byte)
 
 -- a check answers with a refusal exactly when it was given it, and accepts only where it was given none
 pub answer-refused : (o : Option Refusal) (n N : ℕ) (r : Refusal) → (answer Refused o (Accepted n N) ≡ Refused r) ↔ (o ≡ some r)

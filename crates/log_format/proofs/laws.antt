@@ -1,0 +1,12 @@
+pub mod Lines
+pub mod PairLaws
+pub mod TraceLaws
+pub mod FirstOf
+pub mod LineFaults
+pub mod FrameLines
+pub mod TextLines
+pub mod LogChecks
+pub mod Written
+pub mod FirstFault
+pub mod WiderBound
+pub mod NotWritten
