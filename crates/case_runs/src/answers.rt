@@ -1,14 +1,14 @@
 // An answer compared with the expected one, under the name of its case.
+use balances::CaseCounts;
+use balances::Judged;
+use balances::Replayed;
+use balances::Verdict;
 use event_log::check_log;
 use limits::Refusal;
 use limits::number_of;
 use limits::value_of;
 use log_format::Checked;
 use places::Place;
-use replay::CaseCounts;
-use replay::Judged;
-use replay::Replayed;
-use replay::Verdict;
 use replay::judge_place;
 use replay::replay_first_trace;
 

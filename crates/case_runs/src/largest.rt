@@ -4,8 +4,8 @@ use crate::answers::judges;
 use crate::answers::refuses;
 use crate::texts::put;
 use crate::texts::repeat;
-use replay::CaseCounts;
-use replay::Verdict;
+use balances::CaseCounts;
+use balances::Verdict;
 
 // The bytes of 4,096 lines of 9 bytes each.
 const FITS: usize = 36864;

@@ -11,7 +11,7 @@ use Rattle.limits.specs.declared.Settings.{Settings}
 use Rattle.places.specs.declared.Place.{Place}
 use Rattle.places.specs.Places.{place, word}
 use Rattle.log_format.proofs.Examples.{figure1Log}
-use Rattle.replay.specs.declared.Verdict.the-variants.{Underfed, Both}
+use Rattle.balances.specs.declared.Verdict.the-variants.{Underfed, Both}
 use Rattle.discovery.specs.declared.Discovered.{Discovered}
 use Rattle.discovery.specs.declared.Discovered.the-variants.{Ran, Refused}
 use Rattle.discovery.specs.Rejected.{rejectedWord, markIn, rulesUnderfed, rulesOverfed, ruled}

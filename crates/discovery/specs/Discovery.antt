@@ -12,7 +12,7 @@ use Rattle.limits.specs.Settings.{settingsFault}
 use Rattle.places.specs.Candidates.{candidates}
 use Rattle.log_format.specs.Lines.{framesOf}
 use Rattle.log_format.specs.Checking.{logRefusal}
-use Rattle.replay.specs.Judgement.{verdict}
+use Rattle.balances.specs.Judgement.{verdict}
 use Rattle.discovery.specs.declared.Discovered.{Discovered}
 use Rattle.discovery.specs.declared.Discovered.the-variants.{Ran, Refused}
 use Rattle.discovery.specs.declared.Run.{Run}

@@ -7,8 +7,8 @@ use lib.Dec.{eqb}
 use Rattle.foundation.specs.Lists.{any}
 use Rattle.places.specs.declared.Place.{Place}
 use Rattle.places.specs.Places.{word, placeOf, lighter}
-use Rattle.replay.specs.declared.Verdict.{Verdict}
-use Rattle.replay.specs.declared.Verdict.the-variants.{Fitting, Underfed, Overfed, Both}
+use Rattle.balances.specs.declared.Verdict.{Verdict}
+use Rattle.balances.specs.declared.Verdict.the-variants.{Fitting, Underfed, Overfed, Both}
 
 -- the mark of a rejected place; a fitting place is not rejected, and a word of mark 0 rules nothing
 unfoldable pub mark : Verdict → ℕ

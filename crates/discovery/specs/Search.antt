@@ -10,8 +10,8 @@ use Rattle.foundation.specs.Lists.{any, foldl}
 use Rattle.places.specs.declared.Place.{Place}
 use Rattle.places.specs.Places.{word}
 use Rattle.places.specs.Candidates.{descends}
-use Rattle.replay.specs.declared.Verdict.{Verdict}
-use Rattle.replay.specs.declared.Verdict.the-variants.{Fitting, Underfed, Overfed, Both}
+use Rattle.balances.specs.declared.Verdict.{Verdict}
+use Rattle.balances.specs.declared.Verdict.the-variants.{Fitting, Underfed, Overfed, Both}
 use Rattle.discovery.specs.Rejected.{rejectedWord, ruled, ruledOverfed}
 
 -- what the caller gives a run: room for rejected words, room for found words, and the replay budget

@@ -14,9 +14,9 @@ use Rattle.places.specs.Places.{word, placeOf}
 use Rattle.places.specs.Order.{PlaceBefore}
 use Rattle.places.specs.Candidates.{candidate, candidates}
 use Rattle.log_format.specs.Lines.{framesOf}
-use Rattle.replay.specs.declared.Verdict.{Verdict}
-use Rattle.replay.specs.declared.Verdict.the-variants.{Fitting, Underfed, Overfed, Both}
-use Rattle.replay.specs.Judgement.{verdict}
+use Rattle.balances.specs.declared.Verdict.{Verdict}
+use Rattle.balances.specs.declared.Verdict.the-variants.{Fitting, Underfed, Overfed, Both}
+use Rattle.balances.specs.Judgement.{verdict}
 use Rattle.discovery.specs.Search.{Capacity, endOf, stateOf}
 use Rattle.discovery.specs.Discovery.{run}
 

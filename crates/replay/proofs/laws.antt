@@ -1,6 +1,3 @@
-pub mod Extremes
-pub mod Counts
-pub mod Monotone
 pub mod EventBits
 pub mod EventByEvent
 pub mod CodeDigits
@@ -8,4 +5,3 @@ pub mod FrameByFrame
 pub mod FramesLeft
 pub mod Arguments
 pub mod FirstFrame
-pub mod AnswerLaws

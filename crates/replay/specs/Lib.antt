@@ -1,4 +1,1 @@
-pub mod Balance
 pub mod Replaying
-pub mod Judgement
-pub mod Answers

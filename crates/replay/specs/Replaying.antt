@@ -18,9 +18,9 @@ use Rattle.hex_digits.specs.Digits.{digitValue}
 use Rattle.log_format.specs.Frames.{totalCases}
 use Rattle.log_format.specs.Lines.{framesOf}
 use Rattle.log_format.specs.Checking.{logRefusal}
-use Rattle.replay.specs.declared.CaseCounts.{CaseCounts}
+use Rattle.balances.specs.declared.CaseCounts.{CaseCounts}
 use Rattle.replay.specs.declared.Tokens.{Tokens}
-use Rattle.replay.specs.Balance.{smaller, leastBalance, lastBalance}
+use Rattle.balances.specs.Balance.{smaller, leastBalance, lastBalance}
 
 -- checking the arguments of a call on a log and a place, whose settings are in their ranges or not
 unfoldable pub argumentsChecked : ℕ → Bool → List ℕ → Place → Checked
@@ -45,10 +45,6 @@ unfoldable pub codesIn : List ℕ → List ℕ
 codesIn [] = []
 codesIn (d ∷ []) = []
 codesIn (d ∷ (e ∷ bytes)) = digitValue e ∷ codesIn bytes
-
--- all cases of four case counts
-abbrev pub casesOf : CaseCounts → ℕ
-casesOf c = c .fitting + c .underfed + c .overfed + c .both
 
 -- one more frame's cases go to one of the four counts, by the signs of the low and the end of its trace
 unfoldable pub withCases : CaseCounts → Tokens → ℕ → CaseCounts

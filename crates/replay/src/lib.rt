@@ -1,10 +1,12 @@
 // Replaying traces and judging places: document 01, "Tokens in one trace".
 ghost use mathlib.Core.Path.{_≡_};
-ghost use Rattle.replay.specs.Answers.{replayed, judged};
+ghost use Rattle.balances.specs.Answers.{replayed, judged};
 ghost use Rattle.replay.specs.Replaying.{argumentsChecked};
 use crate::judgement::count_cases;
 use crate::judgement::verdict_on;
 use crate::trace::replay_trace;
+use balances::Judged;
+use balances::Replayed;
 use event_log::COUNT_DIGITS;
 use event_log::check_lines;
 use event_log::frame::trace_end;
@@ -18,41 +20,10 @@ use places::place_under;
 mod judgement; // judgement.rt: the case counts of a place and the verdict on it
 mod trace; // trace.rt: the tokens of one trace
 
-// What replaying the first trace of a log answers: the least balance and the balance after the last event, the low and the end of document 01.
-pub enum Replayed {
-    Balances { least: i16, last: i16 },
-    Refused(Refusal),
-}
-
 // The token balance after the events so far, and the least balance at any of them, 0 before the first: the low of document 01 at the end.
 pub struct Tokens {
     pub balance: i16,
     pub least: i16,
-}
-
-// The four case counts of a place over a log: fitting, underfed only, overfed only, and both.
-pub struct CaseCounts {
-    pub fitting: u64,
-    pub underfed: u64,
-    pub overfed: u64,
-    pub both: u64,
-}
-
-// What a place is over a log at a threshold.
-pub enum Verdict {
-    Fitting,
-    Underfed,
-    Overfed,
-    Both,
-}
-
-// What judging a place over a log answers.
-pub enum Judged {
-    Counted {
-        counts: CaseCounts,
-        verdict: Verdict,
-    },
-    Refused(Refusal),
 }
 
 // Checks the arguments of a call on a log and a place, in the order of checks. Whether the call's settings are in their ranges is handed in.

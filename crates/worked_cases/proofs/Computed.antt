@@ -10,7 +10,7 @@ use Rattle.limits.specs.declared.Refusal.the-variants.{MalformedFrame, UnknownA
 use Rattle.limits.specs.Refusals.{answer}
 use Rattle.places.specs.Candidates.{candidates}
 use Rattle.log_format.specs.Lines.{framesOf}
-use Rattle.replay.specs.Judgement.{verdict}
+use Rattle.balances.specs.Judgement.{verdict}
 use Rattle.discovery.specs.declared.Discovered.the-variants.{Ran, Refused}
 use Rattle.discovery.specs.Search.{Progress, holding, stateOf}
 use Rattle.discovery.specs.Discovery.{run, runRefusal, summary, discovered}

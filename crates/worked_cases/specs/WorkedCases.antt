@@ -12,12 +12,12 @@ use Rattle.places.specs.Places.{place, word}
 use Rattle.log_format.specs.declared.Checked.{Checked}
 use Rattle.log_format.specs.declared.Checked.the-variants.{Accepted, Refused}
 use Rattle.log_format.specs.Checking.{checked}
-use Rattle.replay.specs.declared.Judged.the-variants.{Counted}
-use Rattle.replay.specs.declared.Replayed.the-variants.{Balances}
-use Rattle.replay.specs.declared.Verdict.the-variants.{Fitting, Overfed}
-use Rattle.replay.specs.declared.CaseCounts.{CaseCounts}
-use Rattle.replay.specs.Judgement.{overfedCases}
-use Rattle.replay.specs.Answers.{replayed, judged}
+use Rattle.balances.specs.declared.Judged.the-variants.{Counted}
+use Rattle.balances.specs.declared.Replayed.the-variants.{Balances}
+use Rattle.balances.specs.declared.Verdict.the-variants.{Fitting, Overfed}
+use Rattle.balances.specs.declared.CaseCounts.{CaseCounts}
+use Rattle.balances.specs.Judgement.{overfedCases}
+use Rattle.balances.specs.Answers.{replayed, judged}
 use Rattle.discovery.specs.declared.Discovered.the-variants.{Ran}
 use Rattle.discovery.specs.Search.{holding, stateOf}
 use Rattle.discovery.specs.Discovery.{run, discovered}

@@ -12,8 +12,8 @@ use borrow.Author.Tests.{lt-ltb}
 use Rattle.foundation.specs.Lists.{foldl}
 use Rattle.foundation.proofs.laws.Booleans.{cond-either}
 use Rattle.places.specs.declared.Place.{Place}
-use Rattle.replay.specs.declared.Verdict.{Verdict}
-use Rattle.replay.specs.declared.Verdict.the-variants.{Fitting, Underfed, Overfed, Both}
+use Rattle.balances.specs.declared.Verdict.{Verdict}
+use Rattle.balances.specs.declared.Verdict.the-variants.{Fitting, Underfed, Overfed, Both}
 use Rattle.discovery.specs.Rejected.{rejectedWord, ruled, ruledOverfed}
 use Rattle.discovery.specs.Search.{Capacity, holding, State, Progress, going, stopped, start, visited, replayedOnce, withFound, withRejected, withPruned, proceed, isPruned, accept, reject, conclude, replay, visit, step, search, stateOf}
 

@@ -22,14 +22,14 @@ use Rattle.event_log.specs.Reading.{linesChecked}
 use Rattle.log_format.proofs.laws.FirstOf.{given-none}
 use Rattle.log_format.proofs.laws.LogChecks.{lines-decide, log-passes, answer-refused, answer-accepted}
 use Rattle.log_format.proofs.laws.Written.{text-written}
-use Rattle.replay.specs.declared.Judged.the-variants.{Counted}
-use Rattle.replay.specs.declared.Judged.the-variants as JudgedAs
-use Rattle.replay.specs.declared.Replayed.the-variants.{Balances}
-use Rattle.replay.specs.declared.Replayed.the-variants as ReplayedAs
-use Rattle.replay.specs.Balance.{leastBalance, lastBalance}
-use Rattle.replay.specs.Judgement.{caseCounts, verdict}
+use Rattle.balances.specs.declared.Judged.the-variants.{Counted}
+use Rattle.balances.specs.declared.Judged.the-variants as JudgedAs
+use Rattle.balances.specs.declared.Replayed.the-variants.{Balances}
+use Rattle.balances.specs.declared.Replayed.the-variants as ReplayedAs
+use Rattle.balances.specs.Balance.{leastBalance, lastBalance}
+use Rattle.balances.specs.Judgement.{caseCounts, verdict}
 use Rattle.replay.specs.Replaying.{argumentsChecked}
-use Rattle.replay.specs.Answers.{firstTrace, replayed, judged}
+use Rattle.balances.specs.Answers.{firstTrace, replayed, judged}
 
 module _ (A : ℕ) (in-range : Bool) (text : List ℕ) (p : Place) where
   pub setting-refused : in-range ≡ false → argumentsChecked A in-range text p ≡ Refused InvalidSetting

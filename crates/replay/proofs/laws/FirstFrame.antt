@@ -16,7 +16,7 @@ use Rattle.log_format.specs.Lines.{framesOf}
 use Rattle.event_log.specs.Stepping.{traceEnd}
 use Rattle.log_format.proofs.laws.PairLaws.{length-pairs, pairs-digits}
 use Rattle.event_log.proofs.laws.FrameAt.{frame-end, frame-part, frame-inside}
-use Rattle.replay.specs.Answers.{firstTrace}
+use Rattle.balances.specs.Answers.{firstTrace}
 use Rattle.replay.specs.Replaying.{codesIn}
 use Rattle.replay.proofs.laws.CodeDigits.{codes-written}
 

@@ -18,9 +18,9 @@ use Rattle.log_format.specs.Lines.{framesOf}
 use Rattle.event_log.specs.Stepping.{casesAt, traceEnd}
 use Rattle.log_format.proofs.laws.PairLaws.{length-pairs, pairs-digits}
 use Rattle.event_log.proofs.laws.FrameAt.{frame-cases, frame-end, frame-part, frame-inside, frame-next}
-use Rattle.replay.specs.declared.CaseCounts.{CaseCounts}
-use Rattle.replay.specs.Judgement.{caseCounts}
-use Rattle.replay.specs.Replaying.{afterTrace, codesIn, casesOf, withCases}
+use Rattle.balances.specs.declared.CaseCounts.{CaseCounts}
+use Rattle.balances.specs.Judgement.{caseCounts, casesOf}
+use Rattle.replay.specs.Replaying.{afterTrace, codesIn, withCases}
 use Rattle.replay.proofs.laws.CodeDigits.{codes-written}
 use Rattle.replay.proofs.laws.FrameByFrame.{noCases, withFrame, all-frames, cases-added, total-bounded}
 

@@ -9,7 +9,7 @@ use borrow.Author.Needs.{needs}
 use Rattle.log_format.proofs.laws.Written.{bound-most}
 use Rattle.log_format.proofs.laws.WiderBound.{log-wider}
 use Rattle.limits.specs.Settings.{boundInRange}
-use Rattle.replay.specs.declared.Replayed.the-variants.{Balances}
+use Rattle.balances.specs.declared.Replayed.the-variants.{Balances}
 use Rattle.replay.proofs.laws.Arguments.{Passed, accepted, replay-refused, replay-accepted}
 use Rattle.replay.proofs.laws.FirstFrame.{FirstDigits, first-digits}
 use Rattle.replay.proofs.replay_first_trace.Statement.{statement}

@@ -7,10 +7,10 @@ use lib.Dec.{ltb}
 use Rattle.foundation.specs.Lists.{keep}
 use Rattle.places.specs.declared.Place.{Place}
 use Rattle.log_format.specs.Frames.{Frame, totalCases}
-use Rattle.replay.specs.declared.CaseCounts.{CaseCounts}
-use Rattle.replay.specs.declared.Verdict.{Verdict}
-use Rattle.replay.specs.declared.Verdict.the-variants.{Fitting, Underfed, Overfed, Both}
-use Rattle.replay.specs.Balance.{underfeeds, overfeeds}
+use Rattle.balances.specs.declared.CaseCounts.{CaseCounts}
+use Rattle.balances.specs.declared.Verdict.{Verdict}
+use Rattle.balances.specs.declared.Verdict.the-variants.{Fitting, Underfed, Overfed, Both}
+use Rattle.balances.specs.Balance.{underfeeds, overfeeds}
 
 -- the cases of the frames whose trace passes the test
 unfoldable pub casesWhere : (List ℕ → Bool) → List Frame → ℕ
@@ -25,6 +25,10 @@ caseCounts p frames =
       overfed = casesWhere (λ (t : List ℕ). not (underfeeds t p) && overfeeds t p) frames;
       both = casesWhere (λ (t : List ℕ). underfeeds t p && overfeeds t p) frames;
     }
+
+-- all cases of four case counts
+abbrev pub casesOf : CaseCounts → ℕ
+casesOf c = c .fitting + c .underfed + c .overfed + c .both
 
 -- u and v of document 01: all cases underfed, and all overfed
 unfoldable pub underfedCases : CaseCounts → ℕ

@@ -13,8 +13,8 @@ use Rattle.foundation.specs.Lists.{sum}
 use Rattle.foundation.proofs.laws.Sums.{sum-append, sum-add, sum-keep}
 use Rattle.places.specs.declared.Place.{Place}
 use Rattle.log_format.specs.Frames.{Frame, totalCases}
-use Rattle.replay.specs.Balance.{underfeeds, overfeeds}
-use Rattle.replay.specs.Judgement.{casesWhere, caseCounts, underfedCases, overfedCases, verdictOf, verdict}
+use Rattle.balances.specs.Balance.{underfeeds, overfeeds}
+use Rattle.balances.specs.Judgement.{casesWhere, caseCounts, underfedCases, overfedCases, verdictOf, verdict}
 
 -- a frame's cases where its trace passes the test, 0 elsewhere
 abbrev pub casesIf : (List ℕ → Bool) → Frame → ℕ

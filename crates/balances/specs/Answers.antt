@@ -9,14 +9,14 @@ use Rattle.places.specs.declared.Place.{Place}
 use Rattle.places.specs.Places.{placeFault}
 use Rattle.log_format.specs.Lines.{framesOf}
 use Rattle.log_format.specs.Checking.{logRefusal}
-use Rattle.replay.specs.declared.Judged.{Judged}
-use Rattle.replay.specs.declared.Judged.the-variants.{Counted}
-use Rattle.replay.specs.declared.Judged.the-variants as JudgedAs
-use Rattle.replay.specs.declared.Replayed.{Replayed}
-use Rattle.replay.specs.declared.Replayed.the-variants.{Balances}
-use Rattle.replay.specs.declared.Replayed.the-variants as ReplayedAs
-use Rattle.replay.specs.Balance.{leastBalance, lastBalance}
-use Rattle.replay.specs.Judgement.{caseCounts, verdict}
+use Rattle.balances.specs.declared.Judged.{Judged}
+use Rattle.balances.specs.declared.Judged.the-variants.{Counted}
+use Rattle.balances.specs.declared.Judged.the-variants as JudgedAs
+use Rattle.balances.specs.declared.Replayed.{Replayed}
+use Rattle.balances.specs.declared.Replayed.the-variants.{Balances}
+use Rattle.balances.specs.declared.Replayed.the-variants as ReplayedAs
+use Rattle.balances.specs.Balance.{leastBalance, lastBalance}
+use Rattle.balances.specs.Judgement.{caseCounts, verdict}
 
 -- the trace of line 0
 unfoldable pub firstTrace : List ℕ → List ℕ

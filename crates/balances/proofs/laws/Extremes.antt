@@ -19,7 +19,7 @@ use Rattle.foundation.proofs.laws.Integers.{leZ-refl, leZ-trans, leZ-total, dif
 use Rattle.places.specs.declared.Place.{Place}
 use Rattle.places.specs.Sets.{has}
 use Rattle.log_format.specs.Frames.{mostEvents}
-use Rattle.replay.specs.Balance.{count, balanceAt, smaller, leastOf, leastBalance, lastBalance}
+use Rattle.balances.specs.Balance.{count, balanceAt, smaller, leastOf, leastBalance, lastBalance}
 
 -- the smaller of two numbers is at most each
 smaller-left : (a b : ℤ) → leZ (smaller a b) a ≡ true

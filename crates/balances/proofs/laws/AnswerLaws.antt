@@ -21,18 +21,17 @@ use Rattle.log_format.specs.Lines.{framesOf}
 use Rattle.log_format.specs.Checking.{logRefusal}
 use Rattle.log_format.proofs.laws.LogChecks.{log-passes}
 use Rattle.log_format.proofs.laws.Written.{text-written}
-use Rattle.replay.specs.declared.CaseCounts.{CaseCounts}
-use Rattle.replay.specs.declared.Judged.the-variants.{Counted}
-use Rattle.replay.specs.declared.Judged.the-variants as JudgedAs
-use Rattle.replay.specs.declared.Replayed.the-variants.{Balances}
-use Rattle.replay.specs.declared.Replayed.the-variants as ReplayedAs
-use Rattle.replay.specs.declared.Verdict.{Verdict}
-use Rattle.replay.specs.Balance.{leastBalance, lastBalance}
-use Rattle.replay.specs.Judgement.{caseCounts, verdict}
-use Rattle.replay.specs.Replaying.{casesOf}
-use Rattle.replay.specs.Answers.{firstTrace, replayed, judged}
-use Rattle.replay.proofs.laws.Extremes.{Ranges, ranges}
-use Rattle.replay.proofs.laws.Counts.{counts-add-up}
+use Rattle.balances.specs.declared.CaseCounts.{CaseCounts}
+use Rattle.balances.specs.declared.Judged.the-variants.{Counted}
+use Rattle.balances.specs.declared.Judged.the-variants as JudgedAs
+use Rattle.balances.specs.declared.Replayed.the-variants.{Balances}
+use Rattle.balances.specs.declared.Replayed.the-variants as ReplayedAs
+use Rattle.balances.specs.declared.Verdict.{Verdict}
+use Rattle.balances.specs.Balance.{leastBalance, lastBalance}
+use Rattle.balances.specs.Judgement.{caseCounts, casesOf, verdict}
+use Rattle.balances.specs.Answers.{firstTrace, replayed, judged}
+use Rattle.balances.proofs.laws.Extremes.{Ranges, ranges}
+use Rattle.balances.proofs.laws.Counts.{counts-add-up}
 
 -- a call that refuses nothing was lent a log
 passed-log : (settings places : Option Refusal) (A : ℕ) (text : List ℕ) → logRefusal settings places A text ≡ none

@@ -23,10 +23,10 @@ use Rattle.places.specs.Sets.{has, within}
 use Rattle.places.specs.Places.{lighter}
 use Rattle.places.proofs.laws.Lighter.{within-has, lighter-sets}
 use Rattle.log_format.specs.Frames.{Frame, WrittenLog, totalCases}
-use Rattle.replay.specs.Balance.{count, balanceAt, leastBalance, lastBalance, underfeeds, overfeeds}
-use Rattle.replay.specs.Judgement.{casesWhere, caseCounts, underfedCases, overfedCases, exceeds}
-use Rattle.replay.proofs.laws.Extremes.{least-reached, least-at-most}
-use Rattle.replay.proofs.laws.Counts.{casesIf, casesWhere-sum, underfed-all, overfed-all}
+use Rattle.balances.specs.Balance.{count, balanceAt, leastBalance, lastBalance, underfeeds, overfeeds}
+use Rattle.balances.specs.Judgement.{casesWhere, caseCounts, underfedCases, overfedCases, exceeds}
+use Rattle.balances.proofs.laws.Extremes.{least-reached, least-at-most}
+use Rattle.balances.proofs.laws.Counts.{casesIf, casesWhere-sum, underfed-all, overfed-all}
 
 -- every activity of the trace has a code that a set can name
 abbrev pub Known : List ℕ → Type 0

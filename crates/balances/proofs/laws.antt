@@ -1,0 +1,4 @@
+pub mod Extremes
+pub mod Counts
+pub mod Monotone
+pub mod AnswerLaws

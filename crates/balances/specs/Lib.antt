@@ -1,0 +1,3 @@
+pub mod Balance
+pub mod Judgement
+pub mod Answers

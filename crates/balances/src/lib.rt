@@ -1,0 +1,33 @@
+// The types of what replaying and judging answer: document 01, "Tokens in one trace". It has no code.
+use limits::Refusal;
+
+// What replaying the first trace of a log answers: the least balance and the balance after the last event, the low and the end of document 01.
+pub enum Replayed {
+    Balances { least: i16, last: i16 },
+    Refused(Refusal),
+}
+
+// The four case counts of a place over a log: fitting, underfed only, overfed only, and both.
+pub struct CaseCounts {
+    pub fitting: u64,
+    pub underfed: u64,
+    pub overfed: u64,
+    pub both: u64,
+}
+
+// What a place is over a log at a threshold.
+pub enum Verdict {
+    Fitting,
+    Underfed,
+    Overfed,
+    Both,
+}
+
+// What judging a place over a log answers.
+pub enum Judged {
+    Counted {
+        counts: CaseCounts,
+        verdict: Verdict,
+    },
+    Refused(Refusal),
+}
