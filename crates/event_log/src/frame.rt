@@ -1,9 +1,9 @@
 // Stepping through the frames of a log that was checked: document 01, "Settings and the log". No byte is checked again.
 ghost use mathlib.Core.Path.{_≡_};
 ghost use Rattle.event_log.specs.Stepping.{casesAt, traceEnd};
-use crate::COUNT_DIGITS;
-use crate::LINE_FEED;
 use hex_digits::hex::value;
+use log_lines::COUNT_DIGITS;
+use log_lines::LINE_FEED;
 
 // The case count of the frame that begins at an index, 0 where its digits are not all there.
 pub fn cases_at(text: &[u8], from: usize) -> u16

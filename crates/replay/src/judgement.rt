@@ -10,9 +10,9 @@ use crate::Tokens;
 use crate::trace::replay_trace;
 use balances::CaseCounts;
 use balances::Verdict;
-use event_log::COUNT_DIGITS;
 use event_log::frame::cases_at;
 use event_log::frame::trace_end;
+use log_lines::COUNT_DIGITS;
 use places::Place;
 
 // The case counts with those of one more trace, by the signs of its least and its last balance.

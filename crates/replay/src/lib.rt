@@ -7,13 +7,13 @@ use crate::judgement::verdict_on;
 use crate::trace::replay_trace;
 use balances::Judged;
 use balances::Replayed;
-use event_log::COUNT_DIGITS;
 use event_log::check_lines;
 use event_log::frame::trace_end;
 use limits::Refusal;
 use limits::bound_and_threshold_in_range;
 use limits::bound_in_range;
 use log_format::Checked;
+use log_lines::COUNT_DIGITS;
 use places::Place;
 use places::place_under;
 

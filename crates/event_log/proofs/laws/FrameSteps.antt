@@ -13,7 +13,7 @@ use Rattle.log_format.specs.Frames.{countDigits}
 use Rattle.event_log.specs.Stepping.{casesAt, pairsLength, traceEnd}
 use Rattle.hex_digits.proofs.laws.DigitLaws.{byte-is-digit, read-write, length-write}
 use Rattle.log_format.proofs.laws.TextLines.{digit-no-feed}
-use Rattle.event_log.proofs.laws.Counts.{four-from}
+use Rattle.log_lines.proofs.laws.Counts.{four-from}
 
 module _ (text : List ℕ) (from : ℕ) where
   pub cases-short : length text < from + countDigits → casesAt text from ≡ 0

@@ -18,11 +18,12 @@ use Rattle.limits.specs.Refusals.{answer}
 use Rattle.limits.specs.Settings.{boundInRange}
 use Rattle.log_format.specs.declared.Checked.{Checked}
 use Rattle.log_format.specs.declared.Checked.the-variants.{Accepted, Refused}
-use Rattle.event_log.specs.declared.LineChecked.the-variants.{Sound, Faulty}
+use Rattle.log_lines.specs.declared.LineChecked.the-variants.{Sound, Faulty}
 use Rattle.log_format.specs.Frames.{countDigits, mostFrames, totalCases}
 use Rattle.log_format.specs.Lines.{Line, lines, firstLine, frameOf, framesOf}
 use Rattle.log_format.specs.Checking.{lineFault, linesFault, textFault, checked}
-use Rattle.event_log.specs.Reading.{lineChecked, linesChecked}
+use Rattle.log_lines.specs.Reading.{lineChecked}
+use Rattle.event_log.specs.Pass.{linesChecked}
 use Rattle.log_format.proofs.laws.Lines.{lines-step}
 use Rattle.log_format.proofs.laws.FirstOf.{only-one}
 use Rattle.log_format.proofs.laws.FrameLines.{no-fault-framed}

@@ -18,7 +18,7 @@ use Rattle.log_format.specs.declared.Checked.the-variants.{Accepted, Refused}
 use Rattle.log_format.specs.Frames.{WrittenLog, totalCases}
 use Rattle.log_format.specs.Lines.{framesOf}
 use Rattle.log_format.specs.Checking.{emptyFault, logRefusal}
-use Rattle.event_log.specs.Reading.{linesChecked}
+use Rattle.event_log.specs.Pass.{linesChecked}
 use Rattle.log_format.proofs.laws.FirstOf.{given-none}
 use Rattle.log_format.proofs.laws.LogChecks.{lines-decide, log-passes, answer-refused, answer-accepted}
 use Rattle.log_format.proofs.laws.Written.{text-written}

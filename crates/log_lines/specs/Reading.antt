@@ -8,20 +8,18 @@ use lib.Dec.{eqb, leb}
 use lib.ListN.{length, take}
 use Rattle.foundation.specs.Lists.{all}
 use Rattle.limits.specs.Refusals.{answer}
-use Rattle.event_log.specs.declared.Activities.{Activities}
-use Rattle.event_log.specs.declared.Activities.the-variants as Activities
-use Rattle.log_format.specs.declared.Checked.{Checked}
-use Rattle.log_format.specs.declared.Checked.the-variants.{Accepted, Refused}
-use Rattle.event_log.specs.declared.Count.{Count}
-use Rattle.event_log.specs.declared.Count.the-variants as Count
-use Rattle.event_log.specs.declared.LineChecked.{LineChecked}
-use Rattle.event_log.specs.declared.LineChecked.the-variants.{Sound, Faulty}
-use Rattle.event_log.specs.declared.Phase.{Phase}
-use Rattle.event_log.specs.declared.Phase.the-variants.{Before, Inside, Complete, Misplaced}
+use Rattle.log_lines.specs.declared.Activities.{Activities}
+use Rattle.log_lines.specs.declared.Activities.the-variants as Activities
+use Rattle.log_lines.specs.declared.Count.{Count}
+use Rattle.log_lines.specs.declared.Count.the-variants as Count
+use Rattle.log_lines.specs.declared.LineChecked.{LineChecked}
+use Rattle.log_lines.specs.declared.LineChecked.the-variants.{Sound, Faulty}
+use Rattle.log_lines.specs.declared.Phase.{Phase}
+use Rattle.log_lines.specs.declared.Phase.the-variants.{Before, Inside, Complete, Misplaced}
 use Rattle.hex_digits.specs.Digits.{isDigit, readHex}
-use Rattle.log_format.specs.Frames.{countDigits, totalCases}
-use Rattle.log_format.specs.Lines.{Line, readPairs, frameOf, framesOf}
-use Rattle.log_format.specs.Checking.{namesUnknown, endpointMisplaced, lineFault, textFault}
+use Rattle.log_format.specs.Frames.{countDigits}
+use Rattle.log_format.specs.Lines.{Line, readPairs, frameOf}
+use Rattle.log_format.specs.Checking.{namesUnknown, endpointMisplaced, lineFault}
 
 -- the case count that a text begins with: four digits that are not 0000
 unfoldable pub countIn : List ℕ → Count
@@ -63,7 +61,3 @@ activitiesIn A from l =
 -- checking the line that begins at `from`: the index after its line feed and its case count, or its first fault
 unfoldable pub lineChecked : ℕ → ℕ → ℕ → Line → LineChecked
 lineChecked A line from l = answer Faulty (lineFault A line l) (Sound (suc (from + length (l .bytes))) (frameOf l .cases))
-
--- checking the lines of a text
-unfoldable pub linesChecked : ℕ → List ℕ → Checked
-linesChecked A text = answer Refused (textFault A text) (Accepted (length (framesOf text)) (totalCases (framesOf text)))

@@ -10,10 +10,10 @@ use borrow.Author.Tests.{le-leb, lt-leb, ne-eqb}
 use lib.ListN.{length, drop, getD}
 use lib.Seq.{drop-cons}
 use Rattle.foundation.specs.Lists.{all}
-use Rattle.event_log.specs.declared.Count.the-variants.{Cases, Malformed}
+use Rattle.log_lines.specs.declared.Count.the-variants.{Cases, Malformed}
 use Rattle.hex_digits.specs.declared.Pair.the-variants.{Number, NonDigits}
 use Rattle.hex_digits.specs.Digits.{isDigit, readHex, pairOf}
-use Rattle.event_log.specs.Reading.{countIn}
+use Rattle.log_lines.specs.Reading.{countIn}
 use Rattle.hex_digits.proofs.laws.PairNumbers.{four-digits, pair-number, pair-others}
 
 pub count-short : (text : List ℕ) → length text < 4 → countIn text ≡ Malformed

@@ -14,20 +14,20 @@ use lib.ListN.{length, drop, getD, drop-of-length-le}
 use lib.Seq.{drop-cons}
 use Rattle.foundation.specs.Lists.{any, foldl}
 use Rattle.foundation.proofs.laws.Booleans.{by-test}
-use Rattle.event_log.specs.declared.Activities.{Activities}
-use Rattle.event_log.specs.declared.Activities.the-variants.{Read, Malformed}
+use Rattle.log_lines.specs.declared.Activities.{Activities}
+use Rattle.log_lines.specs.declared.Activities.the-variants.{Read, Malformed}
 use Rattle.hex_digits.specs.declared.Pair.{Pair}
 use Rattle.hex_digits.specs.declared.Pair.the-variants.{Number, NonDigits}
-use Rattle.event_log.specs.declared.Phase.{Phase}
-use Rattle.event_log.specs.declared.Phase.the-variants.{Before}
+use Rattle.log_lines.specs.declared.Phase.{Phase}
+use Rattle.log_lines.specs.declared.Phase.the-variants.{Before}
 use Rattle.hex_digits.specs.Digits.{isDigit, readHex, pairOf, lineFeed}
 use Rattle.log_format.specs.Lines.{Line, firstLine, readPairs}
 use Rattle.log_format.specs.Checking.{namesUnknown}
-use Rattle.event_log.specs.Reading.{nextPhase, incomplete, inPairs, activitiesIn}
+use Rattle.log_lines.specs.Reading.{nextPhase, incomplete, inPairs, activitiesIn}
 use Rattle.log_format.proofs.laws.Lines.{withByte, first-none, first-feed, first-byte}
 use Rattle.log_format.proofs.laws.TextLines.{digit-no-feed}
 use Rattle.hex_digits.proofs.laws.PairNumbers.{pair-digits, pair-no-digits}
-use Rattle.event_log.proofs.laws.Phases.{phases-misplaced}
+use Rattle.log_lines.proofs.laws.Phases.{phases-misplaced}
 
 -- on a number go on, else stop
 abbrev pub afterPair : Pair → (ℕ → Activities) → Activities

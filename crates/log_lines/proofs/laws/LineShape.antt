@@ -17,14 +17,14 @@ use Rattle.foundation.specs.Lists.{each-nil, each-cons, all}
 use Rattle.foundation.proofs.laws.Booleans.{by-test, impossible}
 use Rattle.foundation.proofs.laws.Each.{each-append, each-back, each-take, all-each, each-all}
 use Rattle.limits.specs.declared.Refusal.{Refusal}
-use Rattle.event_log.specs.declared.Activities.the-variants as Activities
-use Rattle.event_log.specs.declared.Count.the-variants as Count
-use Rattle.event_log.specs.declared.LineChecked.the-variants.{Sound, Faulty}
+use Rattle.log_lines.specs.declared.Activities.the-variants as Activities
+use Rattle.log_lines.specs.declared.Count.the-variants as Count
+use Rattle.log_lines.specs.declared.LineChecked.the-variants.{Sound, Faulty}
 use Rattle.hex_digits.specs.Digits.{isDigit, readHex, lineFeed}
 use Rattle.log_format.specs.Frames.{countDigits, mostEvents}
 use Rattle.log_format.specs.Lines.{Line, firstLine, readPairs, frameOf}
 use Rattle.log_format.specs.Checking.{malformed, namesUnknown, endpointMisplaced}
-use Rattle.event_log.specs.Reading.{countIn, inPairs, activitiesIn, lineChecked}
+use Rattle.log_lines.specs.Reading.{countIn, inPairs, activitiesIn, lineChecked}
 use Rattle.log_format.proofs.laws.Lines.{first-none, first-feed, first-byte}
 use Rattle.hex_digits.proofs.laws.DigitLaws.{EachDigit}
 use Rattle.log_format.proofs.laws.TextLines.{digit-no-feed}

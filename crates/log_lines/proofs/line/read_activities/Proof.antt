@@ -1,4 +1,4 @@
--- `event_log::line::read_activities` meets its contract. The loop's invariant: the pass from where it stands answers what the pass from the
+-- `log_lines::line::read_activities` meets its contract. The loop's invariant: the pass from where it stands answers what the pass from the
 -- first activity answers, which `Scan` shows to be what the definitions say. The measure is what is left of the text.
 -- Assumes nothing.
 use Prim.Native.Nat.{_-_}
@@ -7,10 +7,10 @@ use mathlib.Core.Bool.{false}
 use native.Mathlib.Omega.{arith}
 use borrow.Author.Needs.{needs}
 use lib.ListN.{length, drop}
-use Rattle.event_log.specs.declared.Phase.the-variants.{Before}
-use Rattle.event_log.proofs.laws.Scan.{scan, scan-first, scan-end, scan-feed, scan-short, scan-others, scan-number}
-use Rattle.event_log.proofs.line.read_activities.Statement.{statement}
-use Rattle.event_log.proofs.line.read_activities.Tie as tie
+use Rattle.log_lines.specs.declared.Phase.the-variants.{Before}
+use Rattle.log_lines.proofs.laws.Scan.{scan, scan-first, scan-end, scan-feed, scan-short, scan-others, scan-number}
+use Rattle.log_lines.proofs.line.read_activities.Statement.{statement}
+use Rattle.log_lines.proofs.line.read_activities.Tie as tie
 
 abbrev Inv-loop : tie.InvT-loop
 Inv-loop activities text from at₀ phase₀ unknown₀ at phase unknown =

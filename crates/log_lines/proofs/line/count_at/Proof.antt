@@ -1,12 +1,12 @@
--- `event_log::line::count_at` meets its contract: by what the two pairs of the four bytes are. Where fewer bytes are left, there is no count.
+-- `log_lines::line::count_at` meets its contract: by what the two pairs of the four bytes are. Where fewer bytes are left, there is no count.
 -- Assumes nothing.
 use mathlib.Core.Path.{sym, _∙_}
 use native.Mathlib.Omega.{arith}
 use borrow.Author.Needs.{needs}
 use lib.ListN.{length-drop}
-use Rattle.event_log.proofs.laws.Counts.{count-short, count-first-others, count-second-others, count-zero, count-cases, four-from}
-use Rattle.event_log.proofs.line.count_at.Statement.{statement}
-use Rattle.event_log.proofs.line.count_at.Tie as tie
+use Rattle.log_lines.proofs.laws.Counts.{count-short, count-first-others, count-second-others, count-zero, count-cases, four-from}
+use Rattle.log_lines.proofs.line.count_at.Statement.{statement}
+use Rattle.log_lines.proofs.line.count_at.Tie as tie
 
 returns : tie.Need-returns
 returns c = let a = c .before .before .args in sym (count-short _ (omega (arith, length-drop (a .from) (a .text .now))))

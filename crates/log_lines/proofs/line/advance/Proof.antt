@@ -1,10 +1,10 @@
--- `event_log::line::advance` meets its contract: each arm knows the phase, and the code as far as the definition asks for it.
+-- `log_lines::line::advance` meets its contract: each arm knows the phase, and the code as far as the definition asks for it.
 -- Assumes nothing.
 use borrow.Author.Needs.{needs}
 use borrow.Author.Tests.{eq-eqb, ne-eqb}
-use Rattle.event_log.specs.Reading.{nextPhase}
-use Rattle.event_log.proofs.line.advance.Statement.{statement}
-use Rattle.event_log.proofs.line.advance.Tie as tie
+use Rattle.log_lines.specs.Reading.{nextPhase}
+use Rattle.log_lines.proofs.line.advance.Statement.{statement}
+use Rattle.log_lines.proofs.line.advance.Tie as tie
 
 returns : tie.Need-returns
 unfolding nextPhase

@@ -11,9 +11,9 @@ use lib.Dec.{eqb, leb}
 use lib.ListN.{length, take, getD}
 use Rattle.foundation.specs.Lists.{any, foldl}
 use Rattle.foundation.proofs.laws.Booleans.{by-test}
-use Rattle.event_log.specs.declared.Phase.the-variants.{Before, Inside, Misplaced}
+use Rattle.log_lines.specs.declared.Phase.the-variants.{Before, Inside, Misplaced}
 use Rattle.log_format.specs.Checking.{endpointMisplaced}
-use Rattle.event_log.specs.Reading.{nextPhase, incomplete}
+use Rattle.log_lines.specs.Reading.{nextPhase, incomplete}
 
 -- a misplaced endpoint stays one
 stays-misplaced : (events : List ℕ) → foldl nextPhase Misplaced events ≡ Misplaced

@@ -2,7 +2,7 @@
 ghost use mathlib.Core.Path.{_≡_};
 ghost use lib.ListN.{drop};
 ghost use Rattle.log_format.specs.Lines.{firstLine};
-ghost use Rattle.event_log.specs.Reading.{countIn, nextPhase, incomplete, activitiesIn, lineChecked};
+ghost use Rattle.log_lines.specs.Reading.{countIn, nextPhase, incomplete, activitiesIn, lineChecked};
 use crate::Activities;
 use crate::COUNT_DIGITS;
 use crate::Count;

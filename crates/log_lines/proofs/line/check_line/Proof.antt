@@ -1,4 +1,4 @@
--- `event_log::line::check_line` meets its contract: the count and the activities give the line's shape, and the tests take its faults in the
+-- `log_lines::line::check_line` meets its contract: the count and the activities give the line's shape, and the tests take its faults in the
 -- order of checks.
 -- Assumes nothing.
 use Prim.Native.Nat.{_+_, _<_}
@@ -10,9 +10,9 @@ use lib.Seq.{drop-drop}
 use Rattle.log_format.specs.Frames.{mostFrames}
 use Rattle.log_format.specs.Lines.{firstLine}
 use Rattle.log_format.proofs.laws.LineFaults.{Readable, index-large, line-malformed, trace-long, code-unknown, endpoint-misplaced, no-fault}
-use Rattle.event_log.proofs.laws.LineShape.{first-fits, Counted, counted, no-count, LineShape, no-activities, line-shape, shape-short, shape-formed, shape-long, shape-fits, faulty, sound}
-use Rattle.event_log.proofs.line.check_line.Statement.{statement}
-use Rattle.event_log.proofs.line.check_line.Tie as tie
+use Rattle.log_lines.proofs.laws.LineShape.{first-fits, Counted, counted, no-count, LineShape, no-activities, line-shape, shape-short, shape-formed, shape-long, shape-fits, faulty, sound}
+use Rattle.log_lines.proofs.line.check_line.Statement.{statement}
+use Rattle.log_lines.proofs.line.check_line.Tie as tie
 
 -- the count that was read
 count : (c : tie.After-known-told)

@@ -1,0 +1,4 @@
+pub mod Phases
+pub mod Scan
+pub mod Counts
+pub mod LineShape
