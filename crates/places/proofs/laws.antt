@@ -1,3 +1,4 @@
 pub mod Bounds
+pub mod Doubling
 pub mod Irreflexive
 pub mod Lighter

@@ -1,10 +1,11 @@
 -- Laws of the words for lists.
 -- Assumes nothing.
-use mathlib.Core.Path.{_≡_, refl, ap}
-use mathlib.Core.Bool.{Bool, true, and-eq-true-iff}
-use mathlib.Core.List.{List, [], _∷_, _++_}
+use Prim.Native.Nat.{ℕ, zero, suc}
+use mathlib.Core.Path.{_≡_, refl, sym, ap, _∙_}
+use mathlib.Core.Bool.{Bool, true, false, cond, and-eq-true-iff}
+use mathlib.Core.List.{List, [], _∷_, _++_, map, map-append}
 use lib.ListN.{length, take, getD}
-use Rattle.foundation.specs.Lists.{Each, each-cons, all, pairwise}
+use Rattle.foundation.specs.Lists.{Each, each-cons, keep, all, pairwise, upTo}
 
 module _ {A : Type 0} {P : A → Type 0} {x : A} {xs : List A} where
   pub each-head : Each P (x ∷ xs) → P x
@@ -35,3 +36,29 @@ module _ {A : Type 0} (r : A → A → Bool) where
 pub last-split : {A : Type 0} (x : A) (xs : List A) (d : A) → x ∷ xs ≡ take (length xs) (x ∷ xs) ++ (getD (x ∷ xs) (length xs) d ∷ [])
 last-split x [] d = refl
 last-split x (y ∷ xs) d = ap (_∷_ x) (last-split y xs d)
+
+-- keeping some of two lists in turn
+pub keep-append : {A : Type 0} (p : A → Bool) (xs ys : List A) → keep p (xs ++ ys) ≡ keep p xs ++ keep p ys
+keep-append p [] ys = refl
+keep-append p (x ∷ xs) ys = go (p x) (keep-append p xs ys)
+  where
+    go : (b : Bool) → keep p (xs ++ ys) ≡ keep p xs ++ keep p ys
+        → cond b (x ∷ keep p (xs ++ ys)) (keep p (xs ++ ys)) ≡ cond b (x ∷ keep p xs) (keep p xs) ++ keep p ys
+    go true e = ap (_∷_ x) e
+    go false e = e
+
+-- of the images of a list, those that pass are the images of the elements that pass, where the tests agree
+module _ {A B : Type 0} (p : B → Bool) (q : A → Bool) (f : A → B) (agree : (x : A) → p (f x) ≡ q x) where
+  pub keep-map : (xs : List A) → keep p (map f xs) ≡ map f (keep q xs)
+  keep-map [] = refl
+  keep-map (x ∷ xs) = rw (agree x) (go (q x) (keep-map xs))
+    where
+      go : (b : Bool) → keep p (map f xs) ≡ map f (keep q xs)
+          → cond b (f x ∷ keep p (map f xs)) (keep p (map f xs)) ≡ map f (cond b (x ∷ keep q xs) (keep q xs))
+      go true e = ap (_∷_ (f x)) e
+      go false e = e
+
+-- the numbers below n + 1: 0, and the numbers below n, each one more
+pub upTo-raised : (n : ℕ) → upTo (suc n) ≡ 0 ∷ map suc (upTo n)
+upTo-raised zero = refl
+upTo-raised (suc n) = ap (λ (l : List ℕ). l ++ (suc n ∷ [])) (upTo-raised n) ∙ ap (_∷_ 0) (sym (map-append suc (upTo n) (n ∷ [])))
