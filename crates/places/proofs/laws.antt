@@ -1,4 +1,5 @@
 pub mod Bounds
 pub mod Doubling
-pub mod Irreflexive
 pub mod Lighter
+pub mod SetList
+pub mod SetOrder

@@ -5,18 +5,22 @@ use Prim.Native.Nat.{ℕ, zero, suc, _<_}
 use native.Mathlib.Omega.{arith}
 use mathlib.Core.Path.{_≡_, refl}
 use mathlib.Core.Bool.{Bool, true, false, cond, false≢true, and-eq-true-iff}
-use mathlib.Core.List.{List, [], _∷_, _++_, map}
+use mathlib.Core.List.{List, [], _∷_, _++_, map, flatMap}
 use lib.Dec.{eqb}
 use lib.ListN.{length, take, drop, getD, length-append}
 use borrow.Author.Tests.{eqb-true, eqb-false}
 use Rattle.foundation.specs.Lists.{Each, each-nil, each-cons, keep, all, any, upTo}
-use Rattle.foundation.proofs.laws.Booleans.{or-false-parts}
+use Rattle.foundation.proofs.laws.Booleans.{cond-either, or-false-parts}
 use Rattle.foundation.proofs.laws.Lists.{each-head}
 
 module _ {A : Type 0} {P : A → Type 0} where
   pub each-imply : {Q : A → Type 0} {xs : List A} → ((x : A) → P x → Q x) → Each P xs → Each Q xs
   each-imply f each-nil = each-nil
   each-imply f (each-cons {x = x} here later) = each-cons (f x here) (each-imply f later)
+
+  pub each-always : ((x : A) → P x) → (xs : List A) → Each P xs
+  each-always h [] = each-nil
+  each-always h (x ∷ xs) = each-cons (h x) (each-always h xs)
 
   pub each-take : (n : ℕ) {xs : List A} → Each P xs → Each P (take n xs)
   each-take zero e = each-nil
@@ -40,9 +44,23 @@ module _ {A : Type 0} {P : A → Type 0} where
   each-back [] ys e = e
   each-back (x ∷ xs) ys (each-cons here later) = each-back xs ys later
 
+  pub each-both : {Q : A → Type 0} {xs : List A} → Each P xs → Each Q xs → Each (λ (x : A). P x × Q x) xs
+  each-both each-nil each-nil = each-nil
+  each-both (each-cons here later) (each-cons here′ later′) = each-cons (here, here′) (each-both later later′)
+
+  pub each-keep : (p : A → Bool) {xs : List A} → Each P xs → Each P (keep p xs)
+  each-keep p each-nil = each-nil
+  each-keep p (each-cons {x = x} here later) = cond-either (Each P) (p x) (each-cons here (each-keep p later)) (each-keep p later)
+
 pub each-map : {A B : Type 0} {P : B → Type 0} (f : A → B) {xs : List A} → Each (λ (x : A). P (f x)) xs → Each P (map f xs)
 each-map f each-nil = each-nil
 each-map f (each-cons here later) = each-cons here (each-map f later)
+
+pub each-flatMap : {A B : Type 0} {P : B → Type 0} (f : A → List B) {xs : List A}
+    → Each (λ (x : A). Each P (f x)) xs → Each P (flatMap f xs)
+unfolding flatMap
+each-flatMap f each-nil = each-nil
+each-flatMap f (each-cons here later) = each-append here (each-flatMap f later)
 
 -- each element passes a test, or each fails it
 module _ {A : Type 0} (p : A → Bool) where
