@@ -3,3 +3,4 @@ pub mod Doubling
 pub mod Lighter
 pub mod SetList
 pub mod SetOrder
+pub mod CandidateOrder

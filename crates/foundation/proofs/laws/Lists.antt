@@ -1,10 +1,11 @@
 -- Laws of the words for lists.
 -- Assumes nothing.
-use Prim.Native.Nat.{ℕ, zero, suc}
+use Prim.Native.Nat.{ℕ, zero, suc, _*_}
+use native.Mathlib.Nat.{zero-mul, suc-mul, add-comm}
 use mathlib.Core.Path.{_≡_, refl, sym, ap, _∙_}
 use mathlib.Core.Bool.{Bool, true, false, cond, and-eq-true-iff}
-use mathlib.Core.List.{List, [], _∷_, _++_, map, map-append}
-use lib.ListN.{length, take, getD}
+use mathlib.Core.List.{List, [], _∷_, _++_, map, flatMap, map-append}
+use lib.ListN.{length, take, getD, length-append}
 use Rattle.foundation.specs.Lists.{Each, each-cons, keep, all, pairwise, upTo}
 
 module _ {A : Type 0} {P : A → Type 0} {x : A} {xs : List A} where
@@ -57,6 +58,13 @@ module _ {A B : Type 0} (p : B → Bool) (q : A → Bool) (f : A → B) (agree :
           → cond b (f x ∷ keep p (map f xs)) (keep p (map f xs)) ≡ map f (cond b (x ∷ keep q xs) (keep q xs))
       go true e = ap (_∷_ (f x)) e
       go false e = e
+
+-- lists in turn, each of the same length
+pub length-flatMap : {A B : Type 0} (f : A → List B) (k : ℕ) → ((x : A) → length (f x) ≡ k) → (xs : List A) → length (flatMap f xs) ≡ length xs * k
+unfolding flatMap
+length-flatMap f k same [] = sym (zero-mul k)
+length-flatMap f k same (x ∷ xs) =
+    rw (length-append (f x) (flatMap f xs), same x, length-flatMap f k same xs, suc-mul) (add-comm k (length xs * k))
 
 -- the numbers below n + 1: 0, and the numbers below n, each one more
 pub upTo-raised : (n : ℕ) → upTo (suc n) ≡ 0 ∷ map suc (upTo n)
