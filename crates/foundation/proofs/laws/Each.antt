@@ -95,6 +95,15 @@ all-keep p q (x ∷ xs) e = let h = go (q x) e in each-cons (h .0) (all-keep p q
     go true h = let both = and-eq-true-iff (p x) (all p (keep q xs)) .0 h in (λ _. both .0, both .1)
     go false h = (λ c. absurd (false≢true c), h)
 
+-- and where each does so, all that q keeps passes p
+pub all-kept : {A : Type 0} (p q : A → Bool) {xs : List A} → Each (λ (x : A). q x ≡ true → p x ≡ true) xs → all p (keep q xs) ≡ true
+all-kept p q each-nil = refl
+all-kept p q (each-cons {x = x} {xs = xs} here later) = go (q x) here (all-kept p q later)
+  where
+    go : (b : Bool) → (b ≡ true → p x ≡ true) → all p (keep q xs) ≡ true → all p (cond b (x ∷ keep q xs) (keep q xs)) ≡ true
+    go true h rest = rw (h refl) rest
+    go false h rest = rest
+
 pub length-upTo : (n : ℕ) → length (upTo n) ≡ n
 length-upTo zero = refl
 length-upTo (suc n) = omega (arith, length-append (upTo n) (n ∷ []), length-upTo n)

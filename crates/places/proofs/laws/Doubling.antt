@@ -14,7 +14,7 @@ use Rattle.foundation.proofs.laws.Lists.{keep-append, keep-map, upTo-raised}
 use Rattle.places.specs.Sets.{has, member, codes, size}
 
 -- a code above 0 is in a set if the code below it is in the set's half
-has-half : (t a : ℕ) → has t (suc a) ≡ has (t / 2) a
+pub has-half : (t a : ℕ) → has t (suc a) ≡ has (t / 2) a
 has-half t a = rw pow-succ' (ap (λ (q : ℕ). q % 2) (sym (div-div-eq-div-mul t 2 (2 ^ a))))
 
 -- the codes of the raised sets: those of the set, each one more, and code 0 in the second alone
