@@ -5,3 +5,5 @@ pub mod BitOperations
 pub mod SetList
 pub mod SetOrder
 pub mod CandidateOrder
+pub mod Highest
+pub mod NextSet
