@@ -7,3 +7,7 @@ pub mod SetOrder
 pub mod CandidateOrder
 pub mod Highest
 pub mod NextSet
+pub mod Extending
+pub mod From
+pub mod Position
+pub mod Succession

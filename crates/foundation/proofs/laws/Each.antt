@@ -3,7 +3,7 @@
 -- Assumes nothing.
 use Prim.Native.Nat.{ℕ, zero, suc, _<_}
 use native.Mathlib.Omega.{arith}
-use mathlib.Core.Path.{_≡_, refl}
+use mathlib.Core.Path.{_≡_, refl, ap}
 use mathlib.Core.Bool.{Bool, true, false, cond, false≢true, and-eq-true-iff}
 use mathlib.Core.List.{List, [], _∷_, _++_, map, flatMap}
 use lib.Dec.{eqb}
@@ -103,6 +103,16 @@ all-kept p q (each-cons {x = x} {xs = xs} here later) = go (q x) here (all-kept 
     go : (b : Bool) → (b ≡ true → p x ≡ true) → all p (keep q xs) ≡ true → all p (cond b (x ∷ keep q xs) (keep q xs)) ≡ true
     go true h rest = rw (h refl) rest
     go false h rest = rest
+
+-- keeping elements that all pass, or of which none does
+module _ {A : Type 0} (p : A → Bool) where
+  pub keep-every : {xs : List A} → Each (λ (x : A). p x ≡ true) xs → keep p xs ≡ xs
+  keep-every each-nil = refl
+  keep-every (each-cons {x = x} here later) = rw here (ap (_∷_ x) (keep-every later))
+
+  pub keep-none : {xs : List A} → Each (λ (x : A). p x ≡ false) xs → keep p xs ≡ []
+  keep-none each-nil = refl
+  keep-none (each-cons here later) = rw here (keep-none later)
 
 pub length-upTo : (n : ℕ) → length (upTo n) ≡ n
 length-upTo zero = refl

@@ -59,6 +59,11 @@ module _ {A B : Type 0} (p : B → Bool) (q : A → Bool) (f : A → B) (agree :
       go true e = ap (_∷_ (f x)) e
       go false e = e
 
+  -- all images pass where all elements do
+  pub all-map : (xs : List A) → all p (map f xs) ≡ all q xs
+  all-map [] = refl
+  all-map (x ∷ xs) = rw (agree x, all-map xs)
+
 -- lists in turn, each of the same length
 pub length-flatMap : {A B : Type 0} (f : A → List B) (k : ℕ) → ((x : A) → length (f x) ≡ k) → (xs : List A) → length (flatMap f xs) ≡ length xs * k
 unfolding flatMap
