@@ -1,6 +1,9 @@
 // Sets of activities and places: document 01, "Candidates and their order" and the first sentences of "Tokens in one trace".
 ghost use mathlib.Core.Path.{_≡_};
-ghost use Rattle.places.specs.Places.{below, placeUnder};
+ghost use Rattle.places.specs.Places.{below, placeUnder, lighter};
+use crate::set::is_within;
+
+pub mod set; // set.rt: sets of activities
 
 // A place (I, O): its input and its output activities, as sets in which code a stands for 2 to the power a.
 pub struct Place {
@@ -26,4 +29,11 @@ pub fn place_under(activities: u8, place: Place) -> bool
         return false;
     }
     below_bound(activities, place.inputs) && below_bound(activities, place.outputs)
+}
+
+// Whether a place is at least as light as another (Definition 10).
+pub fn is_lighter(place: Place, than: Place) -> bool
+    ensures { λ r. ⌜ r ≡ lighter place than ⌝ }
+{
+    is_within(place.inputs, than.inputs) && is_within(than.outputs, place.outputs)
 }
