@@ -1,6 +1,8 @@
 pub mod Booleans
 pub mod Lists
 pub mod Each
+pub mod Any
+pub mod Keeping
 pub mod Members
 pub mod Ordered
 pub mod Sums

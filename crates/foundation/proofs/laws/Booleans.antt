@@ -1,4 +1,4 @@
--- Case splits on a Boolean, the parts of a disjunction that fails, and what cannot be.
+-- Case splits on a Boolean, the parts of a disjunction that fails or holds, and what cannot be.
 -- Assumes nothing.
 use Prim.Native.Nat.{ℕ}
 use native.Mathlib.Omega.{arith}
@@ -18,6 +18,11 @@ by-test false hx hy = hy refl
 pub or-false-parts : (a b : Bool) → a || b ≡ false → (a ≡ false) × (b ≡ false)
 or-false-parts true b e = absurd (true≢false e)
 or-false-parts false b e = (refl, e)
+
+-- what follows from either part follows from a disjunction
+pub or-true-either : {X : Type 0} (a b : Bool) → (a ≡ true → X) → (b ≡ true → X) → a || b ≡ true → X
+or-true-either true b hx hy e = hx refl
+or-true-either false b hx hy e = hy e
 
 -- nothing is so that 0 is 1: what `cc` finds where two constructors would be equal
 pub impossible : {X : Type 0} → _≡_ {A = ℕ} 0 1 → X
