@@ -11,3 +11,5 @@ pub mod Extending
 pub mod From
 pub mod Position
 pub mod Succession
+pub mod Descendants
+pub mod Words
