@@ -1,1 +1,2 @@
 pub mod LargerCache
+pub mod Rulings
