@@ -29,7 +29,7 @@ above : ℕ → ℕ → Bool
 above i a = all (λ (b : ℕ). ltb b a) (codes i)
 
 -- what it means that j is i with codes added above its own
-record Extends (i j : ℕ) : Type 0 where
+record Extension (i j : ℕ) : Type 0 where
   inside : within i j ≡ true
   some-added : 0 < length (keep (isAdded i j) (upTo mostActivities))
   added-above : (a : ℕ) → a < mostActivities → isAdded i j a ≡ true → above i a ≡ true
@@ -38,7 +38,7 @@ added-codes : (i j : ℕ) → added i j ≡ keep (isAdded i j) (upTo mostActivit
 unfolding added codes isAdded
 added-codes i j = keep-twice (λ (a : ℕ). not (member i a)) (member j) (upTo mostActivities)
 
-extends-parts : (i j : ℕ) → extends i j ≡ true → Extends i j
+extends-parts : (i j : ℕ) → extends i j ≡ true → Extension i j
 unfolding extends above
 extends-parts i j e =
     let some = ltb 0 (length (added i j)) in
@@ -50,7 +50,7 @@ extends-parts i j e =
       added-above = upTo-each mostActivities (all-keep (above i) (isAdded i j) (upTo mostActivities) (rw added-codes at (outer .1)));
     }
 
-parts-extend : (i j : ℕ) → Extends i j → extends i j ≡ true
+parts-extend : (i j : ℕ) → Extension i j → extends i j ≡ true
 unfolding extends above
 parts-extend i j x =
     rw (x .inside, added-codes i j, lt-ltb 0 (length (keep (isAdded i j) (upTo mostActivities))) (x .some-added))
@@ -62,7 +62,7 @@ unfolding above
 above-within i j a e h =
     codes-all (λ (b : ℕ). ltb b a) i .1 (λ b l m. codes-all (λ (c : ℕ). ltb c a) j .0 h b l (within-member i j .0 e b l m))
 
-module _ (i j k : ℕ) (first : Extends i j) (second : Extends j k) where
+module _ (i j k : ℕ) (first : Extension i j) (second : Extension j k) where
   still-added : (a : ℕ) → a < mostActivities → isAdded i j a ≡ true → isAdded i k a ≡ true
   unfolding isAdded
   still-added a l e =
@@ -78,7 +78,7 @@ module _ (i j k : ℕ) (first : Extends i j) (second : Extends j k) where
       (λ in-j. first .added-above a l (rw (in-j, parts .1)))
       (λ not-in-j. above-within i j a (first .inside) (second .added-above a l (rw (parts .0, not-in-j))))
 
-  extends-both : Extends i k
+  extends-both : Extension i k
   extends-both =
       record {
         inside = within-trans i j k (first .inside) (second .inside);
@@ -86,7 +86,7 @@ module _ (i j k : ℕ) (first : Extends i j) (second : Extends j k) where
         added-above = all-above;
       }
 
-pub extends-trans : (i j k : ℕ) → extends i j ≡ true → extends j k ≡ true → extends i k ≡ true
+extends-trans : (i j k : ℕ) → extends i j ≡ true → extends j k ≡ true → extends i k ≡ true
 extends-trans i j k e f = parts-extend i k (extends-both i j k (extends-parts i j e) (extends-parts j k f))
 
 descends-parts : (c d : Place) → descends c d ≡ true → (c .outputs ≡ d .outputs) × (extends (c .inputs) (d .inputs) ≡ true)
