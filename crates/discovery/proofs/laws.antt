@@ -1,2 +1,3 @@
 pub mod LargerCache
 pub mod Rulings
+pub mod Outcomes
