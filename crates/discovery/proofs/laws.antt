@@ -1,3 +1,4 @@
 pub mod LargerCache
 pub mod Rulings
 pub mod Outcomes
+pub mod Soundness

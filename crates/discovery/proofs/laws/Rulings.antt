@@ -93,6 +93,12 @@ module _ (ws : List ℕ) (w : ℕ) (c : Place) where
   unfolding ruledOverfed
   overfed-more = any-append (rulesOverfed c) ws (w ∷ []) ∙ ap (_||_ (any (rulesOverfed c) ws)) (or-false (rulesOverfed c w))
 
+  pub underfed-kept : any (rulesUnderfed c) ws ≡ true → any (rulesUnderfed c) (ws ++ (w ∷ [])) ≡ true
+  underfed-kept e = underfed-more ∙ rw e
+
+  pub overfed-kept : ruledOverfed ws c ≡ true → ruledOverfed (ws ++ (w ∷ [])) c ≡ true
+  overfed-kept e = overfed-more ∙ rw e
+
 -- a ruling passes on to heavier candidates
 module _ (c d : Place) (light : lighter c d ≡ true) where
   pub rules-heavier : (w : ℕ) → rulesOverfed c w ≡ true → rulesOverfed d w ≡ true
