@@ -2,3 +2,4 @@ pub mod LargerCache
 pub mod Rulings
 pub mod Outcomes
 pub mod Soundness
+pub mod OneRun
