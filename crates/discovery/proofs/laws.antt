@@ -3,3 +3,4 @@ pub mod Rulings
 pub mod Outcomes
 pub mod Soundness
 pub mod OneRun
+pub mod RunCounts
