@@ -4,3 +4,6 @@ pub mod Outcomes
 pub mod Soundness
 pub mod OneRun
 pub mod RunCounts
+pub mod Covering
+pub mod SecondPhase
+pub mod TwoPhases
