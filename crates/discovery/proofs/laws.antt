@@ -7,3 +7,4 @@ pub mod RunCounts
 pub mod Covering
 pub mod SecondPhase
 pub mod TwoPhases
+pub mod AnyTwoRuns
