@@ -33,13 +33,14 @@ boundFault A = given (not (boundInRange A)) InvalidSetting
 unfoldable pub boundAndThresholdFault : ℕ → ℕ → Option Refusal
 boundAndThresholdFault A T = given (not (boundInRange A && thresholdInRange T)) InvalidSetting
 
--- number 1, of a call that takes all four
-unfoldable pub settingsFault : Settings → Option Refusal
-settingsFault s =
-    given
-    (not
-    (boundInRange (s .activities)
+-- all four
+unfoldable pub settingsInRange : Settings → Bool
+settingsInRange s =
+    boundInRange (s .activities)
     && sizeInRange (s .activities) (s .inputs)
     && sizeInRange (s .activities) (s .outputs)
-    && thresholdInRange (s .threshold)))
-    InvalidSetting
+    && thresholdInRange (s .threshold)
+
+-- number 1, of a call that takes all four
+unfoldable pub settingsFault : Settings → Option Refusal
+settingsFault s = given (not (settingsInRange s)) InvalidSetting

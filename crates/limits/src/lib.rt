@@ -2,7 +2,7 @@
 ghost use mathlib.Core.Path.{_≡_};
 ghost use mathlib.Core.Bool.{_&&_};
 ghost use Rattle.limits.specs.Refusals.{number, value};
-ghost use Rattle.limits.specs.Settings.{boundInRange, thresholdInRange};
+ghost use Rattle.limits.specs.Settings.{boundInRange, sizeInRange, thresholdInRange, settingsInRange};
 
 // A, mi, mo and T of document 01. Their ranges are in specs/Settings.antt.
 pub struct Settings {
@@ -54,6 +54,29 @@ pub fn bound_and_threshold_in_range(activities: u8, threshold: u16) -> bool
     } else {
         false
     }
+}
+
+// Whether a bound on inputs or outputs is in its range.
+pub fn size_in_range(activities: u8, size: u8) -> bool
+    ensures { λ r. ⌜ r ≡ sizeInRange activities size ⌝ }
+{
+    1 <= size && size <= activities
+}
+
+// Whether all four settings are in their ranges.
+pub fn settings_in_range(settings: Settings) -> bool
+    ensures { λ r. ⌜ r ≡ settingsInRange settings ⌝ }
+{
+    if !bound_in_range(settings.activities) {
+        return false;
+    }
+    if !size_in_range(settings.activities, settings.inputs) {
+        return false;
+    }
+    if !size_in_range(settings.activities, settings.outputs) {
+        return false;
+    }
+    threshold_in_range(settings.threshold)
 }
 
 // The number of a refusal.

@@ -5,7 +5,7 @@
 use Prim.Native.Nat.{ℕ, _≤_}
 use mathlib.Core.Path.{_≡_, refl}
 use mathlib.Core.Logic.{Iff·rfl, Iff·trans, Iff·and}
-use mathlib.Core.Bool.{Bool, true, false, not, _&&_, and-eq-true-iff}
+use mathlib.Core.Bool.{Bool, true, false, not}
 use mathlib.Core.List.{List}
 use mathlib.Core.Option.{none}
 use borrow.Author.Tests.{not-false}
@@ -15,7 +15,8 @@ use Rattle.foundation.proofs.laws.Members.{member-keep}
 use Rattle.foundation.proofs.laws.Ordered.{ordered-keep}
 use Rattle.limits.specs.declared.Refusal.the-variants.{InvalidSetting}
 use Rattle.limits.specs.declared.Settings.{Settings}
-use Rattle.limits.specs.Settings.{mostActivities, boundInRange, sizeInRange, thresholdInRange, settingsFault}
+use Rattle.limits.specs.Settings.{mostActivities, settingsInRange, settingsFault}
+use Rattle.limits.proofs.laws.SettingsRanges.{in-range}
 use Rattle.places.specs.Candidates.{candidates}
 use Rattle.places.proofs.laws.CandidateOrder.{candidate-listed, candidates-ascending, candidates-distinct, candidates-bounded}
 use Rattle.places.proofs.laws.Words.{Storable, words-back}
@@ -23,7 +24,7 @@ use Rattle.log_format.specs.Frames.{Frame, WrittenLog}
 use Rattle.log_format.specs.Lines.{framesOf}
 use Rattle.log_format.proofs.laws.FirstOf.{given-none}
 use Rattle.log_format.proofs.laws.LogChecks.{log-passes}
-use Rattle.log_format.proofs.laws.Written.{bound-most, text-written}
+use Rattle.log_format.proofs.laws.Written.{text-written}
 use Rattle.balances.specs.Judgement.{verdictWhere, verdictOf, verdict}
 use Rattle.balances.proofs.laws.Monotone.{log-monotone}
 use Rattle.discovery.specs.Search.{Capacity}
@@ -39,14 +40,7 @@ use Rattle.discovery.proofs.laws.TwoPhases.{first-begins, second-comple
 settings-bound : (s : Settings) → settingsFault s ≡ none → s .activities ≤ mostActivities
 unfolding settingsFault
 settings-bound s e =
-    let bound = boundInRange (s .activities) in
-    let inputs = sizeInRange (s .activities) (s .inputs) in
-    let outputs = sizeInRange (s .activities) (s .outputs) in
-    let threshold = thresholdInRange (s .threshold) in
-    let all = bound && inputs && outputs && threshold in
-    let outer = and-eq-true-iff (bound && inputs && outputs) threshold .0 (not-false all (given-none (not all) InvalidSetting e)) in
-    let middle = and-eq-true-iff (bound && inputs) outputs .0 (outer .0) in
-    bound-most (s .activities) (and-eq-true-iff bound inputs .0 (middle .0) .0)
+    in-range s (not-false (settingsInRange s) (given-none (not (settingsInRange s)) InvalidSetting e)) .few-activities
 
 where-underfed : (u o : Bool) → isUnderfed (verdictWhere u o) ≡ u
 where-underfed true true = refl
