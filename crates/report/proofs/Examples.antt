@@ -6,7 +6,7 @@ use mathlib.Core.List.{List, [], _∷_}
 use lib.ListN.{replicate}
 use Rattle.foundation.specs.Text.{bytes}
 use Rattle.limits.specs.declared.Refusal.the-variants.{InvalidPlace, BufferTooSmall}
-use Rattle.discovery.specs.Search.{State, going, stopped}
+use Rattle.candidate_search.specs.Search.{State, going, stopped}
 use Rattle.report.specs.declared.Written.the-variants.{Bytes, Refused}
 use Rattle.report.specs.Writing.{written, writtenAfter}
 use Rattle.report.specs.Program.{capacity, report, placelist}

@@ -12,8 +12,8 @@ use Rattle.limits.specs.declared.Refusal.the-variants.{InvalidSetting, TooLarge
 use Rattle.limits.specs.declared.Settings.{Settings}
 use Rattle.limits.specs.Refusals.{number, value, given, firstOf, answer}
 use Rattle.hex_digits.specs.Digits.{isDigit, readHex, writeHex, lineFeed}
-use Rattle.discovery.specs.Search.{Capacity, holding, Progress, endOf, stateOf}
-use Rattle.discovery.specs.Discovery.{run, runRefusal}
+use Rattle.candidate_search.specs.Search.{Capacity, holding, Progress, endOf, stateOf}
+use Rattle.candidate_search.specs.Discovery.{run, runRefusal}
 use Rattle.reduction.specs.Reduction.{reducedWords}
 use Rattle.report.specs.Writing.{listText}
 

@@ -11,10 +11,10 @@ use Rattle.limits.specs.Refusals.{answer}
 use Rattle.places.specs.Candidates.{candidates}
 use Rattle.log_format.specs.Lines.{framesOf}
 use Rattle.balances.specs.Judgement.{verdict}
-use Rattle.discovery.specs.declared.Discovered.the-variants.{Ran, Refused}
-use Rattle.discovery.specs.Search.{Progress, holding, stateOf}
-use Rattle.discovery.specs.Discovery.{run, runRefusal, summary, discovered}
-use Rattle.discovery.proofs.laws.LargerCache.{larger-cache}
+use Rattle.candidate_search.specs.declared.Discovered.the-variants.{Ran, Refused}
+use Rattle.candidate_search.specs.Search.{Progress, holding, stateOf}
+use Rattle.candidate_search.specs.Discovery.{run, runRefusal, summary, discovered}
+use Rattle.candidate_search.proofs.laws.LargerCache.{larger-cache}
 use Rattle.report.proofs.Opened.{opened}
 use Rattle.worked_cases.specs.WorkedCases.{settings, single, LargeCache, WorkedCases}
 

@@ -18,9 +18,9 @@ use Rattle.balances.specs.declared.Verdict.the-variants.{Fitting, Overfed}
 use Rattle.balances.specs.declared.CaseCounts.{CaseCounts}
 use Rattle.balances.specs.Judgement.{overfedCases}
 use Rattle.balances.specs.Answers.{replayed, judged}
-use Rattle.discovery.specs.declared.Discovered.the-variants.{Ran}
-use Rattle.discovery.specs.Search.{holding, stateOf}
-use Rattle.discovery.specs.Discovery.{run, discovered}
+use Rattle.candidate_search.specs.declared.Discovered.the-variants.{Ran}
+use Rattle.candidate_search.specs.Search.{holding, stateOf}
+use Rattle.candidate_search.specs.Discovery.{run, discovered}
 use Rattle.reduction.specs.declared.Reduced.the-variants.{Kept}
 use Rattle.reduction.specs.Reduction.{reduced, reducedWords}
 use Rattle.report.specs.Program.{placelist}

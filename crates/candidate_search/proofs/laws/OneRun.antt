@@ -12,10 +12,10 @@ use Rattle.places.specs.declared.Place.{Place}
 use Rattle.places.specs.Places.{word}
 use Rattle.places.proofs.laws.Words.{Storable}
 use Rattle.balances.specs.declared.Verdict.{Verdict}
-use Rattle.discovery.specs.Search.{Capacity, State, Progress, going, stopped, start, visited, replayedOnce, withFound, withRejected, step, search, endOf, stateOf}
-use Rattle.discovery.specs.TwoRuns.{isFitting}
-use Rattle.discovery.proofs.laws.Outcomes.{ReplayOutcome, spent, list-full, accepted, dropped, cached, Outcome, passed, known, replayed, step-outcome}
-use Rattle.discovery.proofs.laws.Soundness.{MonotoneVerdict, Sound, SoundRun, ruled-unfit, pruned-unfit, nothing-sound, step-sound}
+use Rattle.candidate_search.specs.Search.{Capacity, State, Progress, going, stopped, start, visited, replayedOnce, withFound, withRejected, step, search, endOf, stateOf}
+use Rattle.candidate_search.specs.TwoRuns.{isFitting}
+use Rattle.candidate_search.proofs.laws.Outcomes.{ReplayOutcome, spent, list-full, accepted, dropped, cached, Outcome, passed, known, replayed, step-outcome}
+use Rattle.candidate_search.proofs.laws.Soundness.{MonotoneVerdict, Sound, SoundRun, ruled-unfit, pruned-unfit, nothing-sound, step-sound}
 
 -- the candidates of some that fit
 abbrev pub fittingAmong : (Place → Verdict) → List Place → List Place

@@ -11,10 +11,10 @@ use Rattle.foundation.specs.Lists.{foldl}
 use Rattle.places.specs.declared.Place.{Place}
 use Rattle.places.specs.Places.{word}
 use Rattle.balances.specs.declared.Verdict.{Verdict}
-use Rattle.discovery.specs.Search.{Capacity, State, Progress, going, stopped, start, visited, replayedOnce, withFound, withRejected, step, search, endOf, stateOf}
-use Rattle.discovery.specs.TwoRuns.{isFitting}
-use Rattle.discovery.proofs.laws.Outcomes.{ReplayOutcome, spent, list-full, accepted, dropped, cached, Outcome, passed, known, replayed, step-outcome}
-use Rattle.discovery.proofs.laws.OneRun.{fittingAmong}
+use Rattle.candidate_search.specs.Search.{Capacity, State, Progress, going, stopped, start, visited, replayedOnce, withFound, withRejected, step, search, endOf, stateOf}
+use Rattle.candidate_search.specs.TwoRuns.{isFitting}
+use Rattle.candidate_search.proofs.laws.Outcomes.{ReplayOutcome, spent, list-full, accepted, dropped, cached, Outcome, passed, known, replayed, step-outcome}
+use Rattle.candidate_search.proofs.laws.OneRun.{fittingAmong}
 
 -- the counts of a run with this budget after so many candidates
 pub record Counted (budget candidates replays visits : ℕ) : Type 0 where

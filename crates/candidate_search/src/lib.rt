@@ -1,4 +1,4 @@
-// The search over candidates for the places that a log fits: document 01, "The walk".
+// What the search over candidates answers: document 01, "The walk". The search itself is defined in specs/, and its code is in `discovery`.
 use limits::Refusal;
 
 // What a run answers: how it ended (0 completed, 1 replay budget spent, 2 list of found places full), how many words it found and

@@ -16,7 +16,7 @@ use Rattle.places.proofs.laws.Lighter.{lighter-refl, lighter-trans}
 use Rattle.places.proofs.laws.Words.{Storable, word-small, word-back}
 use Rattle.balances.specs.declared.Verdict.{Verdict}
 use Rattle.balances.specs.declared.Verdict.the-variants.{Fitting, Underfed, Overfed, Both}
-use Rattle.discovery.specs.Rejected.{mark, rejectedWord, markIn, placeIn, rulesUnderfed, rulesOverfed, ruledOverfed}
+use Rattle.candidate_search.specs.Rejected.{mark, rejectedWord, markIn, placeIn, rulesUnderfed, rulesOverfed, ruledOverfed}
 
 -- underfed, alone or with overfed
 abbrev pub isUnderfed : Verdict → Bool

@@ -19,13 +19,13 @@ use Rattle.places.specs.declared.Place.{Place}
 use Rattle.places.specs.Places.{word}
 use Rattle.places.proofs.laws.Words.{Storable}
 use Rattle.balances.specs.declared.Verdict.{Verdict}
-use Rattle.discovery.specs.Search.{Capacity, State, Progress, going, stopped, start, visited, replayedOnce, withFound, isPruned, step, search, endOf, stateOf}
-use Rattle.discovery.specs.TwoRuns.{isFitting, AtLeast}
-use Rattle.discovery.proofs.laws.Outcomes.{tried, ReplayOutcome, spent, list-full, accepted, dropped, cached, Outcome, passed, known, replayed, step-outcome, outcome-is}
-use Rattle.discovery.proofs.laws.Soundness.{MonotoneVerdict, Sound, ruled-unfit, pruned-unfit, nothing-sound, outcome-sound}
-use Rattle.discovery.proofs.laws.OneRun.{Begins, begins-refl, begins-trans, step-grows, replayed-grows}
-use Rattle.discovery.proofs.laws.Covering.{covers-ruled}
-use Rattle.discovery.proofs.laws.SecondPhase.{Ahead, full-ahead, known-passed, known-known, dropped-passed, dropped-known, dropped-dropped, dropped-cached, accepted-accepted}
+use Rattle.candidate_search.specs.Search.{Capacity, State, Progress, going, stopped, start, visited, replayedOnce, withFound, isPruned, step, search, endOf, stateOf}
+use Rattle.candidate_search.specs.TwoRuns.{isFitting, AtLeast}
+use Rattle.candidate_search.proofs.laws.Outcomes.{tried, ReplayOutcome, spent, list-full, accepted, dropped, cached, Outcome, passed, known, replayed, step-outcome, outcome-is}
+use Rattle.candidate_search.proofs.laws.Soundness.{MonotoneVerdict, Sound, ruled-unfit, pruned-unfit, nothing-sound, outcome-sound}
+use Rattle.candidate_search.proofs.laws.OneRun.{Begins, begins-refl, begins-trans, step-grows, replayed-grows}
+use Rattle.candidate_search.proofs.laws.Covering.{covers-ruled}
+use Rattle.candidate_search.proofs.laws.SecondPhase.{Ahead, full-ahead, known-passed, known-known, dropped-passed, dropped-known, dropped-dropped, dropped-cached, accepted-accepted}
 
 -- how the two runs stand to each other: in the first phase, in the second, or the first has stopped
 data Paired (verdict : Place → Verdict) (first : Capacity) : Progress → Progress → Type 0 where

@@ -17,8 +17,8 @@ use Rattle.log_format.specs.Lines.{framesOf}
 use Rattle.balances.specs.declared.Verdict.{Verdict}
 use Rattle.balances.specs.declared.Verdict.the-variants.{Fitting, Underfed, Overfed, Both}
 use Rattle.balances.specs.Judgement.{verdict}
-use Rattle.discovery.specs.Search.{Capacity, endOf, stateOf}
-use Rattle.discovery.specs.Discovery.{run}
+use Rattle.candidate_search.specs.Search.{Capacity, endOf, stateOf}
+use Rattle.candidate_search.specs.Discovery.{run}
 
 -- neither underfed nor overfed
 unfoldable pub isFitting : Verdict → Bool

@@ -12,12 +12,12 @@ use Rattle.places.specs.declared.Place.{Place}
 use Rattle.places.specs.Places.{place, word}
 use Rattle.log_format.proofs.Examples.{figure1Log}
 use Rattle.balances.specs.declared.Verdict.the-variants.{Underfed, Both}
-use Rattle.discovery.specs.declared.Discovered.{Discovered}
-use Rattle.discovery.specs.declared.Discovered.the-variants.{Ran, Refused}
-use Rattle.discovery.specs.Rejected.{rejectedWord, markIn, rulesUnderfed, rulesOverfed, ruled}
-use Rattle.discovery.specs.Search.{Capacity, holding}
-use Rattle.discovery.specs.Discovery.{discovered, foundAfter, rejectedAfter}
-use Rattle.discovery.proofs.Opened.{opened}
+use Rattle.candidate_search.specs.declared.Discovered.{Discovered}
+use Rattle.candidate_search.specs.declared.Discovered.the-variants.{Ran, Refused}
+use Rattle.candidate_search.specs.Rejected.{rejectedWord, markIn, rulesUnderfed, rulesOverfed, ruled}
+use Rattle.candidate_search.specs.Search.{Capacity, holding}
+use Rattle.candidate_search.specs.Discovery.{discovered, foundAfter, rejectedAfter}
+use Rattle.candidate_search.proofs.Opened.{opened}
 
 -- candidates lighter than, equal to and heavier than the place of a word
 abbrev around : List Place

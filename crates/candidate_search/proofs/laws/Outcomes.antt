@@ -14,9 +14,9 @@ use Rattle.places.specs.declared.Place.{Place}
 use Rattle.places.specs.Places.{word}
 use Rattle.balances.specs.declared.Verdict.{Verdict}
 use Rattle.balances.specs.declared.Verdict.the-variants.{Fitting, Underfed, Overfed, Both}
-use Rattle.discovery.specs.Rejected.{rejectedWord, rulesUnderfed, ruledOverfed, ruled}
-use Rattle.discovery.specs.Search.{Capacity, State, Progress, going, stopped, visited, replayedOnce, withFound, withRejected, withPruned, proceed, isPruned, accept, reject, conclude, replay, visit, step}
-use Rattle.discovery.specs.TwoRuns.{isFitting}
+use Rattle.candidate_search.specs.Rejected.{rejectedWord, rulesUnderfed, ruledOverfed, ruled}
+use Rattle.candidate_search.specs.Search.{Capacity, State, Progress, going, stopped, visited, replayedOnce, withFound, withRejected, withPruned, proceed, isPruned, accept, reject, conclude, replay, visit, step}
+use Rattle.candidate_search.specs.TwoRuns.{isFitting}
 
 -- the pruned candidates after c was visited: c too, where the cache rules it overfed
 abbrev pub prunedAfter : Place → List ℕ → List Place → List Place

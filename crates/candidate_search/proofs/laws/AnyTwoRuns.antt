@@ -5,42 +5,31 @@
 use Prim.Native.Nat.{ℕ, _≤_}
 use mathlib.Core.Path.{_≡_, refl}
 use mathlib.Core.Logic.{Iff·rfl, Iff·trans, Iff·and}
-use mathlib.Core.Bool.{Bool, true, false, not}
+use mathlib.Core.Bool.{Bool, true, false}
 use mathlib.Core.List.{List}
 use mathlib.Core.Option.{none}
-use borrow.Author.Tests.{not-false}
 use Rattle.foundation.specs.Lists.{Each}
 use Rattle.foundation.proofs.laws.Each.{each-keep}
 use Rattle.foundation.proofs.laws.Members.{member-keep}
 use Rattle.foundation.proofs.laws.Ordered.{ordered-keep}
-use Rattle.limits.specs.declared.Refusal.the-variants.{InvalidSetting}
 use Rattle.limits.specs.declared.Settings.{Settings}
-use Rattle.limits.specs.Settings.{mostActivities, settingsInRange, settingsFault}
-use Rattle.limits.proofs.laws.SettingsRanges.{in-range}
+use Rattle.limits.specs.Settings.{mostActivities}
 use Rattle.places.specs.Candidates.{candidates}
 use Rattle.places.proofs.laws.CandidateOrder.{candidate-listed, candidates-ascending, candidates-distinct, candidates-bounded}
 use Rattle.places.proofs.laws.Words.{Storable, words-back}
 use Rattle.log_format.specs.Frames.{Frame, WrittenLog}
 use Rattle.log_format.specs.Lines.{framesOf}
-use Rattle.log_format.proofs.laws.FirstOf.{given-none}
-use Rattle.log_format.proofs.laws.LogChecks.{log-passes}
-use Rattle.log_format.proofs.laws.Written.{text-written}
 use Rattle.balances.specs.Judgement.{verdictWhere, verdictOf, verdict}
 use Rattle.balances.proofs.laws.Monotone.{log-monotone}
-use Rattle.discovery.specs.Search.{Capacity}
-use Rattle.discovery.specs.Discovery.{run, runRefusal}
-use Rattle.discovery.specs.TwoRuns.{fits, fittingCandidates, foundBy, Completes, FoundAll, AllFitting, AtLeast, BothComplete, TwoRuns}
-use Rattle.discovery.proofs.laws.Rulings.{isUnderfed, isOverfed}
-use Rattle.discovery.proofs.laws.Soundness.{MonotoneVerdict}
-use Rattle.discovery.proofs.laws.OneRun.{found-all}
-use Rattle.discovery.proofs.laws.RunCounts.{ample-completes}
-use Rattle.discovery.proofs.laws.TwoPhases.{first-begins, second-completes}
-
--- settings that pass have an activity bound that a set can name
-settings-bound : (s : Settings) → settingsFault s ≡ none → s .activities ≤ mostActivities
-unfolding settingsFault
-settings-bound s e =
-    in-range s (not-false (settingsInRange s) (given-none (not (settingsInRange s)) InvalidSetting e)) .few-activities
+use Rattle.candidate_search.specs.Search.{Capacity}
+use Rattle.candidate_search.specs.Discovery.{run, runRefusal}
+use Rattle.candidate_search.specs.TwoRuns.{fits, fittingCandidates, foundBy, Completes, FoundAll, AllFitting, AtLeast, BothComplete, TwoRuns}
+use Rattle.candidate_search.proofs.laws.Rulings.{isUnderfed, isOverfed}
+use Rattle.candidate_search.proofs.laws.Soundness.{MonotoneVerdict}
+use Rattle.candidate_search.proofs.laws.CallChecks.{not-refused}
+use Rattle.candidate_search.proofs.laws.OneRun.{found-all}
+use Rattle.candidate_search.proofs.laws.RunCounts.{ample-completes}
+use Rattle.candidate_search.proofs.laws.TwoPhases.{first-begins, second-completes}
 
 where-underfed : (u o : Bool) → isUnderfed (verdictWhere u o) ≡ u
 where-underfed true true = refl
@@ -70,13 +59,11 @@ module _ (s : Settings) (text : List ℕ) where
     few : s .activities ≤ mostActivities
     monotone : MonotoneVerdict (verdict (s .threshold) (framesOf text))
 
-  not-refused : runRefusal s text ≡ none → Suitable
-  unfolding runRefusal
-  not-refused e =
-      let passes = log-passes (s .activities) text (settingsFault s) none .0 e in
-      let few = settings-bound s (passes .settings-pass) in
-      let log = text-written (s .activities) text (passes .some-byte) (passes .lines-pass) in
-      record { few = few; monotone = log-verdicts (s .activities) (s .threshold) (framesOf text) text few log }
+  suitable : runRefusal s text ≡ none → Suitable
+  suitable e =
+      let known = not-refused s text e in
+      let few = known .settings .few-activities in
+      record { few = few; monotone = log-verdicts (s .activities) (s .threshold) (framesOf text) text few (known .log) }
 
   module _ (a : Suitable) where
     storable : Each Storable (candidates s)
@@ -126,4 +113,4 @@ module _ (s : Settings) (text : List ℕ) where
 -- of any two runs that are not refused, the second with at least the room and the budget of the first
 pub two-runs : (s : Settings) (text : List ℕ) (first second : Capacity) → runRefusal s text ≡ none → AtLeast first second
     → TwoRuns s text first second
-two-runs s text first second pass more = claim s text (not-refused s text pass) first second more
+two-runs s text first second pass more = claim s text (suitable s text pass) first second more

@@ -13,10 +13,10 @@ use Rattle.places.specs.Candidates.{candidates}
 use Rattle.log_format.specs.Lines.{framesOf}
 use Rattle.log_format.specs.Checking.{logRefusal}
 use Rattle.balances.specs.Judgement.{verdict}
-use Rattle.discovery.specs.declared.Discovered.{Discovered}
-use Rattle.discovery.specs.declared.Discovered.the-variants.{Ran, Refused}
-use Rattle.discovery.specs.declared.Run.{Run}
-use Rattle.discovery.specs.Search.{Capacity, holding, Progress, search, endOf, stateOf}
+use Rattle.candidate_search.specs.declared.Discovered.{Discovered}
+use Rattle.candidate_search.specs.declared.Discovered.the-variants.{Ran, Refused}
+use Rattle.candidate_search.specs.declared.Run.{Run}
+use Rattle.candidate_search.specs.Search.{Capacity, holding, Progress, search, endOf, stateOf}
 
 -- a run on a log under settings
 unfoldable pub run : Settings → List ℕ → Capacity → Progress

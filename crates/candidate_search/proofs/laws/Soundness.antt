@@ -15,11 +15,11 @@ use Rattle.places.proofs.laws.Descendants.{descends-lighter}
 use Rattle.places.proofs.laws.Words.{Storable}
 use Rattle.balances.specs.declared.Verdict.{Verdict}
 use Rattle.balances.specs.declared.Verdict.the-variants.{Fitting, Underfed, Overfed, Both}
-use Rattle.discovery.specs.Rejected.{rejectedWord, rulesUnderfed, rulesOverfed, ruledOverfed, ruled}
-use Rattle.discovery.specs.Search.{Capacity, State, Progress, going, stopped, visited, replayedOnce, withFound, withRejected, isPruned, step, stateOf}
-use Rattle.discovery.specs.TwoRuns.{isFitting}
-use Rattle.discovery.proofs.laws.Rulings.{isUnderfed, isOverfed, rules-underfed, rules-overfed, underfed-more, overfed-more, overfed-kept, ruled-heavier}
-use Rattle.discovery.proofs.laws.Outcomes.{prunedAfter, ReplayOutcome, spent, list-full, accepted, dropped, cached, Outcome, passed, known, replayed, step-outcome}
+use Rattle.candidate_search.specs.Rejected.{rejectedWord, rulesUnderfed, rulesOverfed, ruledOverfed, ruled}
+use Rattle.candidate_search.specs.Search.{Capacity, State, Progress, going, stopped, visited, replayedOnce, withFound, withRejected, isPruned, step, stateOf}
+use Rattle.candidate_search.specs.TwoRuns.{isFitting}
+use Rattle.candidate_search.proofs.laws.Rulings.{isUnderfed, isOverfed, rules-underfed, rules-overfed, underfed-more, overfed-more, overfed-kept, ruled-heavier}
+use Rattle.candidate_search.proofs.laws.Outcomes.{prunedAfter, ReplayOutcome, spent, list-full, accepted, dropped, cached, Outcome, passed, known, replayed, step-outcome}
 
 -- where p is at least as light as q, p is underfed if q is, and q is overfed if p is
 pub record MonotoneVerdict (verdict : Place → Verdict) : Type 0 where

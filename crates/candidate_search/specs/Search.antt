@@ -12,7 +12,7 @@ use Rattle.places.specs.Places.{word}
 use Rattle.places.specs.Candidates.{descends}
 use Rattle.balances.specs.declared.Verdict.{Verdict}
 use Rattle.balances.specs.declared.Verdict.the-variants.{Fitting, Underfed, Overfed, Both}
-use Rattle.discovery.specs.Rejected.{rejectedWord, ruled, ruledOverfed}
+use Rattle.candidate_search.specs.Rejected.{rejectedWord, ruled, ruledOverfed}
 
 -- what the caller gives a run: room for rejected words, room for found words, and the replay budget
 pub record Capacity : Type 0 where

@@ -13,11 +13,11 @@ use Rattle.places.specs.declared.Place.{Place}
 use Rattle.places.specs.Places.{word}
 use Rattle.places.proofs.laws.Words.{Storable}
 use Rattle.balances.specs.declared.Verdict.{Verdict}
-use Rattle.discovery.specs.Rejected.{rejectedWord}
-use Rattle.discovery.specs.Search.{Capacity, State, visited, replayedOnce, withFound, withRejected, isPruned}
-use Rattle.discovery.proofs.laws.Outcomes.{onward, tried}
-use Rattle.discovery.proofs.laws.Soundness.{MonotoneVerdict, Sound, sound-after, sound-cached}
-use Rattle.discovery.proofs.laws.Covering.{Covers, covers-self, covers-cached, covers-second, covers-both, covers-first}
+use Rattle.candidate_search.specs.Rejected.{rejectedWord}
+use Rattle.candidate_search.specs.Search.{Capacity, State, visited, replayedOnce, withFound, withRejected, isPruned}
+use Rattle.candidate_search.proofs.laws.Outcomes.{onward, tried}
+use Rattle.candidate_search.proofs.laws.Soundness.{MonotoneVerdict, Sound, sound-after, sound-cached}
+use Rattle.candidate_search.proofs.laws.Covering.{Covers, covers-self, covers-cached, covers-second, covers-both, covers-first}
 
 -- the state s₂ of the second run is ahead of s₁
 pub record Ahead (verdict : Place → Verdict) (first : Capacity) (s₁ s₂ : State) : Type 0 where

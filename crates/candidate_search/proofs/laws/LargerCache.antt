@@ -14,8 +14,8 @@ use Rattle.foundation.proofs.laws.Booleans.{cond-either}
 use Rattle.places.specs.declared.Place.{Place}
 use Rattle.balances.specs.declared.Verdict.{Verdict}
 use Rattle.balances.specs.declared.Verdict.the-variants.{Fitting, Underfed, Overfed, Both}
-use Rattle.discovery.specs.Rejected.{rejectedWord, ruled, ruledOverfed}
-use Rattle.discovery.specs.Search.{Capacity, holding, State, Progress, going, stopped, start, visited, replayedOnce, withFound, withRejected, withPruned, proceed, isPruned, accept, reject, conclude, replay, visit, step, search, stateOf}
+use Rattle.candidate_search.specs.Rejected.{rejectedWord, ruled, ruledOverfed}
+use Rattle.candidate_search.specs.Search.{Capacity, holding, State, Progress, going, stopped, start, visited, replayedOnce, withFound, withRejected, withPruned, proceed, isPruned, accept, reject, conclude, replay, visit, step, search, stateOf}
 
 -- the rejected words that a run has
 abbrev cached : Progress → ℕ

@@ -13,10 +13,10 @@ use Rattle.foundation.proofs.laws.Booleans.{by-test, or-true-either}
 use Rattle.places.specs.declared.Place.{Place}
 use Rattle.places.specs.Candidates.{descends}
 use Rattle.places.proofs.laws.Descendants.{descends-trans}
-use Rattle.discovery.specs.Rejected.{rulesUnderfed, ruledOverfed, ruled}
-use Rattle.discovery.proofs.laws.Rulings.{underfed-kept, overfed-kept}
-use Rattle.discovery.proofs.laws.Outcomes.{prunedAfter}
-use Rattle.discovery.proofs.laws.Soundness.{amongDescendants}
+use Rattle.candidate_search.specs.Rejected.{rulesUnderfed, ruledOverfed, ruled}
+use Rattle.candidate_search.proofs.laws.Rulings.{underfed-kept, overfed-kept}
+use Rattle.candidate_search.proofs.laws.Outcomes.{prunedAfter}
+use Rattle.candidate_search.proofs.laws.Soundness.{amongDescendants}
 
 -- the words ws₂ and the pruned candidates ps₂ cover ws₁ and ps₁
 pub record Covers (ws₁ ws₂ : List ℕ) (ps₁ ps₂ : List Place) : Type 0 where

@@ -1,10 +1,11 @@
-pub mod LargerCache
 pub mod Rulings
 pub mod Outcomes
+pub mod LargerCache
 pub mod Soundness
 pub mod OneRun
 pub mod RunCounts
 pub mod Covering
 pub mod SecondPhase
 pub mod TwoPhases
+pub mod CallChecks
 pub mod AnyTwoRuns
