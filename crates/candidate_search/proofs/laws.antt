@@ -1,5 +1,6 @@
 pub mod Rulings
 pub mod Outcomes
+pub mod RunSteps
 pub mod LargerCache
 pub mod Soundness
 pub mod OneRun
