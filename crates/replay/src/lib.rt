@@ -1,12 +1,18 @@
 // Replaying traces and judging places: document 01, "Tokens in one trace".
 ghost use mathlib.Core.Path.{_≡_};
+ghost use Prim.Native.Nat.{_≤_};
+ghost use Rattle.limits.specs.Settings.{mostActivities};
+ghost use Rattle.log_format.specs.Frames.{WrittenLog};
+ghost use Rattle.log_format.specs.Lines.{framesOf};
 ghost use Rattle.balances.specs.Answers.{replayed, judged};
+ghost use Rattle.balances.specs.Judgement.{verdict};
 ghost use Rattle.replay.specs.Replaying.{argumentsChecked};
 use crate::judgement::count_cases;
 use crate::judgement::verdict_on;
 use crate::trace::replay_trace;
 use balances::Judged;
 use balances::Replayed;
+use balances::Verdict;
 use event_log::check_lines;
 use event_log::frame::trace_end;
 use limits::Refusal;
@@ -61,6 +67,14 @@ pub fn replay_first_trace(activities: u8, text: &[u8], place: Place) -> Replayed
             }
         }
     }
+}
+
+// The verdict on a place over a log that was accepted, which is not checked again.
+pub fn verdict_over(threshold: u16, text: &[u8], place: Place) -> Verdict
+    requires { ⌜ (threshold ≤ 1000) × WrittenLog mostActivities (framesOf (now text)) (now text) ⌝ }
+    ensures { λ r. ⌜ r ≡ verdict threshold (framesOf (now (text .entry))) place ⌝ }
+{
+    verdict_on(threshold, count_cases(text, place))
 }
 
 // Judges a place over a log at a threshold.
