@@ -5,9 +5,9 @@ use Rattle.places.specs.Sets.{codes, size, within, disjoint, union}
 use Rattle.places.specs.Places.{word, placeOf, through, below, placeUnder, placeFault, wordsFault, wordsRefusal, lighter, nonOverlapping, join}
 use Rattle.places.specs.Order.{SetBefore, PlaceBefore}
 use Rattle.places.specs.Candidates.{candidateSet, candidate, sets, candidates, added, extends, descends}
-use Rattle.places.specs.Succession.{from, firstSet, setAfter, setPast}
+use Rattle.places.specs.Succession.{from, firstSet, setAfter, setPast, rows, candidatesFrom}
 use Rattle.limits.proofs.Opened.{opened as opened-limits}
 
 unfoldable pub opened : Unit {0}
-unfolding flatMap codes size within disjoint union word placeOf through below placeUnder placeFault wordsFault wordsRefusal lighter nonOverlapping join SetBefore PlaceBefore candidateSet candidate sets candidates added extends descends from firstSet setAfter setPast opened-limits
+unfolding flatMap codes size within disjoint union word placeOf through below placeUnder placeFault wordsFault wordsRefusal lighter nonOverlapping join SetBefore PlaceBefore candidateSet candidate sets candidates added extends descends from firstSet setAfter setPast rows candidatesFrom opened-limits
 opened = tt

@@ -1,6 +1,6 @@
 // Sets of activities and places: document 01, "Candidates and their order" and the first sentences of "Tokens in one trace".
 ghost use mathlib.Core.Path.{_≡_};
-ghost use Rattle.places.specs.Places.{below, placeUnder, lighter};
+ghost use Rattle.places.specs.Places.{below, placeUnder, word, lighter};
 use crate::set::is_within;
 
 pub mod set; // set.rt: sets of activities
@@ -29,6 +29,13 @@ pub fn place_under(activities: u8, place: Place) -> bool
         return false;
     }
     below_bound(activities, place.inputs) && below_bound(activities, place.outputs)
+}
+
+// The 32-bit word of a place.
+pub fn word_of(place: Place) -> u32
+    ensures { λ r. ⌜ r ≡ word place ⌝ }
+{
+    place.inputs as u32 + 65536 * place.outputs as u32
 }
 
 // Whether a place is at least as light as another (Definition 10).
