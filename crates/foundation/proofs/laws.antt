@@ -8,3 +8,4 @@ pub mod Ordered
 pub mod Sums
 pub mod Integers
 pub mod Differences
+pub mod Buffers

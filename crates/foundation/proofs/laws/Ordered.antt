@@ -3,7 +3,7 @@
 -- Assumes nothing.
 use mathlib.Core.Path.{_≡_, sym, subst}
 use mathlib.Core.Bool.{Bool}
-use mathlib.Core.List.{List, _++_, map, flatMap}
+use mathlib.Core.List.{List, [], _∷_, _++_, map, flatMap}
 use Rattle.foundation.specs.Lists.{Each, each-nil, each-cons, Ordered, ordered-nil, ordered-cons, keep}
 use Rattle.foundation.proofs.laws.Booleans.{cond-either}
 use Rattle.foundation.proofs.laws.Each.{each-imply, each-always, each-append, each-both, each-keep, each-map, each-flatMap}
@@ -36,6 +36,14 @@ module _ {A : Type 0} {R : A → A → Type 0} where
   ordered-append ordered-nil after across = after
   ordered-append (ordered-cons first rest) after (each-cons here later) =
       ordered-cons (each-append first here) (ordered-append rest after later)
+
+-- the end of an ordered list, and its first element against the others
+pub ordered-back : {A : Type 0} {R : A → A → Type 0} (xs : List A) {ys : List A} → Ordered R (xs ++ ys) → Ordered R ys
+ordered-back [] o = o
+ordered-back (x ∷ xs) (ordered-cons here later) = ordered-back xs later
+
+pub ordered-head : {A : Type 0} {R : A → A → Type 0} {x : A} {xs : List A} → Ordered R (x ∷ xs) → Each (R x) xs
+ordered-head (ordered-cons here later) = here
 
 -- the images of elements whose images are related
 pub ordered-map : {A B : Type 0} {R : B → B → Type 0} (f : A → B) {xs : List A} → Ordered (λ (x y : A). R (f x) (f y)) xs → Ordered R (map f xs)
