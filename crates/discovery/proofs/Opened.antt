@@ -1,0 +1,9 @@
+-- One name for all definitions of this layer and of those below it: a proof by computation says `unfolding opened`.
+-- Assumes nothing.
+use Rattle.discovery.specs.Rulings.{rulingOf}
+use Rattle.discovery.specs.Standing.{stateIn, prunes}
+use Rattle.candidate_search.proofs.Opened.{opened as opened-search}
+
+unfoldable pub opened : Unit {0}
+unfolding rulingOf stateIn prunes opened-search
+opened = tt

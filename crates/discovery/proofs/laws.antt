@@ -1,0 +1,3 @@
+pub mod WordByWord
+pub mod Recording
+pub mod Visiting

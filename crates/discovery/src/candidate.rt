@@ -1,0 +1,116 @@
+// One candidate in its turn: document 01, "The walk", the list of what happens to a candidate.
+ghost use mathlib.Core.Path.{_≡_};
+ghost use Prim.Native.Nat.{ℕ, suc, _+_, _≤_, _<_, _^_};
+ghost use Rattle.limits.specs.Settings.{mostActivities};
+ghost use Rattle.log_format.specs.Frames.{WrittenLog};
+ghost use Rattle.log_format.specs.Lines.{framesOf};
+ghost use Rattle.balances.specs.Judgement.{verdict};
+ghost use Rattle.discovery.specs.declared.Ruling.the-variants.{Unruled};
+ghost use Rattle.candidate_search.specs.Rejected.{mark};
+ghost use Rattle.discovery.specs.Rulings.{rulingOf};
+ghost use Rattle.candidate_search.specs.Search.{conclude, visit};
+ghost use Rattle.candidate_search.specs.Discovery.{capacityOf};
+ghost use Rattle.discovery.specs.Standing.{stateIn, Stands, Leaves, prunes};
+use crate::Ruling;
+use crate::Turn;
+use crate::cache::ruling_by;
+use balances::Verdict;
+use candidate_search::Run;
+use places::Place;
+use places::word_of;
+use replay::verdict_over;
+
+// The mark of a verdict, 0 of fitting.
+fn mark_of(verdict: Verdict) -> u8
+    ensures { λ r. ⌜ r ≡ mark verdict ⌝ }
+{
+    match verdict {
+        Verdict::Fitting => 0,
+        Verdict::Underfed => 1,
+        Verdict::Overfed => 2,
+        Verdict::Both => 3,
+    }
+}
+
+// What follows the replay of a candidate that no word ruled: it is found, or its word goes where there is room among the rejected. Only a word
+// that was kept can prune, and then by its own mark.
+fn conclude_turn(
+    rejected: &mut [u64],
+    found: &mut [u32],
+    run: Run,
+    candidate: Place,
+    verdict: Verdict,
+) -> Turn
+    requires { ⌜ Stands run (now rejected) (now found)
+        × (rulingOf (stateIn run (now rejected) (now found) .rejected) candidate ≡ Unruled) ⌝ }
+    ensures { λ r. ⌜ ((budget : ℕ) → let p = conclude (capacityOf (now (rejected .entry)) (now (found .entry)) budget) verdict candidate
+        (stateIn run (now (rejected .entry)) (now (found .entry))) in
+        Leaves p (now (rejected .entry)) (now (found .entry)) (r .run) (now (rejected .exit)) (now (found .exit)) × (r .prune ≡ prunes p)) ⌝ }
+{
+    let word = word_of(candidate);
+    let mark = mark_of(verdict);
+    let mut run = run;
+    if mark == 0 {
+        let at = run.found;
+        if at < found.len() {
+            found[at] = word;
+            run.found = at + 1;
+        } else {
+            run.end = 2;
+        }
+        return Turn { run, prune: false };
+    }
+    let at = run.rejected;
+    if at < rejected.len() {
+        rejected[at] = word as u64 + 4294967296 * mark as u64;
+        run.rejected = at + 1;
+        return Turn {
+            run,
+            prune: 2 <= mark,
+        };
+    }
+    // the word is dropped, and prunes nothing
+    let prune = false;
+    Turn { run, prune }
+}
+
+// One candidate that is not pruned: where a word rules it, it is visited and skipped; with the budget spent the run stops; else it is visited and
+// replayed.
+pub fn visit_candidate(
+    threshold: u16,
+    text: &[u8],
+    budget: u32,
+    rejected: &mut [u64],
+    found: &mut [u32],
+    run: Run,
+    candidate: Place,
+) -> Turn
+    requires { ⌜ (threshold ≤ 1000) × WrittenLog mostActivities (framesOf (now text)) (now text)
+        × Stands run (now rejected) (now found) × (run .visits + 1 < 2 ^ 32) ⌝ }
+    ensures { λ r. ⌜ (let p = visit (verdict threshold (framesOf (now (text .entry)))) (capacityOf (now (rejected .entry)) (now (found .entry)) budget)
+        candidate (stateIn run (now (rejected .entry)) (now (found .entry))) in
+        Leaves p (now (rejected .entry)) (now (found .entry)) (r .run) (now (rejected .exit)) (now (found .exit)) × (r .prune ≡ prunes p)) ⌝ }
+{
+    let mut run = run;
+    let count = run.rejected;
+    match ruling_by(&rejected[0..count], candidate) {
+        Ruling::AsOverfed => {
+            run.visits += 1;
+            Turn { run, prune: true }
+        }
+        Ruling::AsUnderfed => {
+            run.visits += 1;
+            Turn { run, prune: false }
+        }
+        Ruling::Unruled => {
+            if budget <= run.replays {
+                run.end = 1;
+                return Turn { run, prune: false };
+            }
+            run.visits += 1;
+            run.replays += 1;
+            let verdict = verdict_over(threshold, text, candidate);
+            conclude_turn(rejected, found, run, candidate, verdict)
+        }
+    }
+}
