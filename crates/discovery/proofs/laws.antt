@@ -1,3 +1,8 @@
 pub mod WordByWord
 pub mod Recording
 pub mod Visiting
+pub mod PrunedAside
+pub mod Onward
+pub mod InputsLeft
+pub mod OutputsLeft
+pub mod CallAnswers

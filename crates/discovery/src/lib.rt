@@ -1,8 +1,19 @@
 // The search over candidates for the places that a log fits: document 01, "The walk".
+ghost use mathlib.Core.Path.{_≡_};
+ghost use Rattle.candidate_search.specs.Discovery.{discovered, capacityOf, foundAfter, rejectedAfter};
+use crate::search::search_from;
+use candidate_search::Discovered;
 use candidate_search::Run;
+use event_log::check_log;
+use limits::Refusal;
+use limits::Settings;
+use limits::settings_in_range;
+use log_format::Checked;
+use places::Place;
 
 mod cache; // cache.rt: which way the words of rejected places rule a candidate
 mod candidate; // candidate.rt: one candidate in its turn
+mod search; // search.rt: the candidates one after the other
 
 // Which way the words of rejected places rule a candidate.
 pub enum Ruling {
@@ -15,4 +26,56 @@ pub enum Ruling {
 pub struct Turn {
     pub run: Run,
     pub prune: bool,
+}
+
+// Where a run stands, so that it can go on from there: what it did, and the candidate whose turn it is.
+pub struct Position {
+    pub run: Run,
+    pub candidate: Place,
+}
+
+// Searches the candidates in their order for those that the log fits, with the room of two buffers and a budget of replays. The words of found
+// places are written from the front of the one buffer, and those of rejected places from the front of the other. What the buffers hold is not
+// read.
+pub fn discover(
+    settings: Settings,
+    text: &[u8],
+    budget: u32,
+    rejected: &mut [u64],
+    found: &mut [u32],
+) -> Discovered
+    ensures answer { λ r. ⌜ r ≡ discovered settings (now (text .entry)) (capacityOf (now (rejected .entry)) (now (found .entry)) budget) ⌝ }
+    ensures cache { λ _. ⌜ now (rejected .exit) ≡ rejectedAfter settings (now (text .entry)) (now (rejected .entry)) (now (found .entry)) budget ⌝ }
+    ensures list { λ _. ⌜ now (found .exit) ≡ foundAfter settings (now (text .entry)) (now (rejected .entry)) (now (found .entry)) budget ⌝ }
+{
+    if !settings_in_range(settings) {
+        return Discovered::Refused(Refusal::InvalidSetting);
+    }
+    match check_log(settings.activities, text) {
+        Checked::Refused(refusal) => Discovered::Refused(refusal),
+        Checked::Accepted {
+            frames: _,
+            cases: _,
+        } => {
+            let run = Run {
+                end: 0,
+                found: 0,
+                rejected: 0,
+                replays: 0,
+                visits: 0,
+            };
+            let candidate = Place {
+                inputs: 1,
+                outputs: 1,
+            };
+            Discovered::Ran(search_from(
+                settings,
+                text,
+                budget,
+                rejected,
+                found,
+                Position { run, candidate },
+            ))
+        }
+    }
 }

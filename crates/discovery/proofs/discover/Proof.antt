@@ -1,0 +1,105 @@
+-- `discovery::discover` meets its contract: settings out of their ranges and a text that is no log are refused, and else the candidates are searched
+-- from the first on.
+-- Assumes nothing.
+use native.Mathlib.Omega.{arith}
+use mathlib.Core.Path.{_≡_, refl, sym, _∙_}
+use mathlib.Core.Bool.{true}
+use mathlib.Core.Option.{none}
+use borrow.Author.Needs.{needs}
+use borrow.Author.Tests.{not-true, not-false}
+use Rattle.limits.specs.Settings.{settingsInRange}
+use Rattle.limits.proofs.laws.SettingsRanges.{in-range}
+use Rattle.places.proofs.laws.Succession.{first-kind}
+use Rattle.candidate_search.specs.Discovery.{runRefusal}
+use Rattle.discovery.proofs.laws.CallAnswers.{searchable, all-countable, refused-answers, run-answers}
+use Rattle.candidate_search.proofs.laws.CallChecks.{not-refused, settings-refused, log-refused, log-accepted}
+use Rattle.discovery.proofs.discover.Statement.{statement}
+use Rattle.discovery.proofs.discover.Tie as tie
+
+-- the settings passed, once the log is looked at
+settings-pass : (c : tie.After-check-log) → settingsInRange (c .before .before .before .before .before .before .args .settings) ≡ true
+settings-pass c = sym (c .before .before .settings-in-range .ensures) ∙ not-false _ (c .before .if1 .left)
+
+-- and so did the log
+log-passes : (c : tie.After-enum-told)
+    → let a = c .before .before .before .before .before .before .before .before .args in runRefusal (a .settings) (a .text .now) ≡ none
+log-passes c =
+    let k = c .before .before in
+    log-accepted _ _ (settings-pass k) _ _ (sym (k .check-log .ensures) ∙ c .enum-told .given .1)
+
+returns : tie.Need-returns
+returns c =
+    let a = c .before .before .before .before .before .args in
+    let refused =
+    refused-answers
+    (a .settings)
+    (a .text .now)
+    (a .rejected .now)
+    (a .found .now)
+    (a .budget)
+    _
+    (settings-refused _ _ (sym (c .before .settings-in-range .ensures) ∙ not-true _ (c .if1 .taken)))
+    in
+    (refused .answer-is, (refused .rejected-are, refused .found-are))
+
+search-from-requires : tie.Need-search-from-requires
+search-from-requires c κs =
+    let e = c .before .before in
+    let ranges = in-range _ (settings-pass (e .before .before)) in
+    let known = searchable _ _ (not-refused _ _ (log-passes e)) in (
+      known,
+      record { goes-on = refl; rejected-there = omega arith; found-there = omega arith },
+      first-kind _ _ (known .few-activities) (known .some-activities) (ranges .some-inputs),
+      first-kind _ _ (known .few-activities) (known .some-activities) (ranges .some-outputs),
+      omega (arith, all-countable _ ranges),
+    )
+
+returns-2 : tie.Need-returns-2
+returns-2 c =
+    let k = c .before .before .before in
+    let a = k .before .before .before .before .before .before .args in
+    let refused =
+    refused-answers
+    (a .settings)
+    (a .text .now)
+    (a .rejected .now)
+    (a .found .now)
+    (a .budget)
+    _
+    (log-refused _ _ (settings-pass k) _ (sym (k .check-log .ensures) ∙ c .before .refusal .given .1))
+    in
+    (refused .answer-is, (refused .rejected-are, refused .found-are))
+
+returns-3 : tie.Need-returns-3
+returns-3 c =
+    let f = c .before .before .before .before in
+    let e = f .before .before .before in
+    let k = e .before .before in
+    let a = k .before .before .before .before .before .before .args in
+    let ran =
+    run-answers
+    (a .settings)
+    (a .text .now)
+    (a .rejected .now)
+    (a .found .now)
+    (a .budget)
+    (log-passes e)
+    (in-range _ (settings-pass k))
+    (f .search-from .ensures)
+    in
+    (ran .answer-is, (ran .rejected-are, ran .found-are))
+
+pub discover-spec : {M : Type 1} → statement M
+discover-spec =
+    tie.close
+    (tie.spec
+    (λ c κs. search needs)  -- settings-in-range-requires
+    returns
+    (λ c κs. search needs)  -- check-log-requires
+    (λ c. search needs)  -- enum-known-refusal
+    (λ c. search needs)  -- enum-told
+    search-from-requires
+    returns-2
+    (λ c. search needs)  -- same-length
+    (λ c. search needs)  -- same-length-2
+    returns-3)

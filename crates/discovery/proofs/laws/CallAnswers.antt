@@ -1,0 +1,90 @@
+-- What the search call answers and leaves: after a refusal the buffers are as they were, and else a fresh run over all candidates, from the first on,
+-- gives the answer and the words. There are fewer than 2 to the power 32 candidates, so every count fits.
+-- Assumes nothing.
+use Prim.Native.Nat.{ℕ, _≤_}
+use native.Mathlib.Omega.{arith}
+use mathlib.Core.Path.{_≡_, ap}
+use mathlib.Core.List.{List}
+use mathlib.Core.Option.{none, some}
+use lib.ListN.{length}
+use Rattle.foundation.specs.Lists.{foldl}
+use Rattle.limits.specs.declared.Refusal.{Refusal}
+use Rattle.limits.specs.declared.Settings.{Settings}
+use Rattle.limits.proofs.laws.SettingsRanges.{InRange}
+use Rattle.places.specs.Places.{place}
+use Rattle.places.specs.Candidates.{candidates, sets}
+use Rattle.places.specs.Succession.{candidatesFrom}
+use Rattle.places.proofs.laws.CandidateOrder.{fewer-candidates}
+use Rattle.places.proofs.laws.Succession.{from-first}
+use Rattle.log_format.specs.Lines.{framesOf}
+use Rattle.log_format.proofs.laws.WiderBound.{log-wider}
+use Rattle.balances.specs.Judgement.{verdict}
+use Rattle.candidate_search.specs.declared.Discovered.{Discovered}
+use Rattle.candidate_search.specs.declared.Discovered.the-variants.{Ran, Refused}
+use Rattle.candidate_search.specs.declared.Run.{Run}
+use Rattle.candidate_search.specs.Search.{going, start, step, search}
+use Rattle.candidate_search.specs.Discovery.{run, runRefusal, discovered, capacityOf, foundAfter, rejectedAfter}
+use Rattle.discovery.specs.Standing.{Searchable, stateIn, Leaves}
+use Rattle.candidate_search.proofs.laws.CallChecks.{NotRefused}
+use Rattle.discovery.proofs.laws.OutputsLeft.{rows-whole}
+
+-- what the checks leave known is enough for the search
+pub searchable : (s : Settings) (text : List ℕ) → NotRefused s text → Searchable s text
+searchable s text known =
+    record {
+      some-activities = omega (arith, known .settings .some-activities);
+      few-activities = known .settings .few-activities;
+      some-inputs = known .settings .some-inputs;
+      small-threshold = known .settings .small-threshold;
+      log = log-wider (known .settings .few-activities) (known .log);
+    }
+
+-- nothing counted, nothing found
+abbrev pub fresh : Run
+fresh = record { end = 0; found = 0; rejected = 0; replays = 0; visits = 0 }
+
+module _ (s : Settings) (ranges : InRange s) where
+  -- from the first candidate on there are all
+  pub from-the-first : candidatesFrom s (place 1 1) ≡ candidates s
+  unfolding candidatesFrom candidates
+  from-the-first =
+      rw (
+        from-first (s .activities) (s .inputs) (omega (arith, ranges .some-activities)) (ranges .some-inputs),
+        from-first (s .activities) (s .outputs) (omega (arith, ranges .some-activities)) (ranges .some-outputs),
+      )
+      (rows-whole (sets (s .activities) (s .inputs)) (sets (s .activities) (s .outputs)))
+
+  pub all-countable : length (candidatesFrom s (place 1 1)) ≤ 4294836225
+  all-countable = omega (arith, ap length from-the-first, fewer-candidates s (ranges .few-activities))
+
+module _ (s : Settings) (text rejected found : List ℕ) (budget : ℕ) where
+  -- what the contract of the call says
+  pub record Answers (d : Discovered) (rejected-after found-after : List ℕ) : Type 0 where
+    pub answer-is : d ≡ discovered s text (capacityOf rejected found budget)
+    pub rejected-are : rejected-after ≡ rejectedAfter s text rejected found budget
+    pub found-are : found-after ≡ foundAfter s text rejected found budget
+
+  pub refused-answers : (r : Refusal) → runRefusal s text ≡ some r → Answers (Refused r) rejected found
+  unfolding discovered rejectedAfter foundAfter
+  refused-answers r e = record { answer-is = rw e; rejected-are = rw e; found-are = rw e }
+
+  pub run-answers : runRefusal s text ≡ none → InRange s → {r : Run} {rejected-after found-after : List ℕ}
+      → Leaves
+      (foldl
+      (step (verdict (s .threshold) (framesOf text)) (capacityOf rejected found budget))
+      (going (stateIn fresh rejected found))
+      (candidatesFrom s (place 1 1)))
+      rejected
+      found
+      r
+      rejected-after
+      found-after
+      → Answers (Ran r) rejected-after found-after
+  unfolding discovered rejectedAfter foundAfter run search start stateIn
+  run-answers e ranges left =
+      let all = rw (from-the-first s ranges) at left in
+      record {
+        answer-is = rw e (ap Ran (all .answered));
+        rejected-are = rw e (all .rejected-left);
+        found-are = rw e (all .found-left);
+      }

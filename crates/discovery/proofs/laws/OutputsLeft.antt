@@ -1,0 +1,152 @@
+-- The loop over output sets: the candidates still to come are those with the output set at hand and the input sets from the one at hand on, and those
+-- with the output sets after it. A turn takes the first of these rows. What it prunes has the row's outputs, so no candidate of another row descends
+-- from it.
+-- Assumes nothing.
+use Prim.Native.Nat.{ℕ, _+_, _≤_, _<_, _^_}
+use native.Mathlib.Omega.{arith}
+use mathlib.Core.Path.{_≡_, refl, sym, ap, subst, _∙_}
+use mathlib.Core.Logic.{_⊎_, inl, inr}
+use mathlib.Core.Bool.{true}
+use mathlib.Core.List.{List, [], _∷_, _++_, flatMap}
+use lib.ListN.{length, length-append, length-map}
+use borrow.Author.Tests.{ne-eqb}
+use Rattle.foundation.specs.Lists.{Each, each-nil, Ordered, foldl}
+use Rattle.foundation.proofs.laws.Each.{each-map, each-imply, each-always, each-none, each-flatMap}
+use Rattle.foundation.proofs.laws.Ordered.{ordered-back, ordered-head}
+use Rattle.limits.specs.Settings.{mostActivities}
+use Rattle.places.specs.declared.Place.{Place}
+use Rattle.places.specs.Places.{place}
+use Rattle.places.specs.Candidates.{candidateSet, sets, descends}
+use Rattle.places.specs.Succession.{from, setAfter, withOutputs, rows}
+use Rattle.places.proofs.laws.From.{from-ends}
+use Rattle.places.proofs.laws.SetOrder.{sets-distinct}
+use Rattle.places.proofs.laws.Succession.{from-nothing, from-first, first-kind, after-from, after-kind}
+use Rattle.balances.specs.declared.Verdict.{Verdict}
+use Rattle.candidate_search.specs.declared.Run.{Run}
+use Rattle.candidate_search.specs.Search.{Progress, going, step, stateOf}
+use Rattle.candidate_search.specs.Discovery.{capacityOf}
+use Rattle.discovery.specs.Standing.{stateIn, Leaves}
+use Rattle.discovery.proofs.laws.Onward.{whole, Reached, reached-end, visits-left, reached-stop, reached-on}
+use Rattle.discovery.proofs.laws.PrunedAside.{NotBelow}
+use Rattle.candidate_search.proofs.laws.RunSteps.{run-outputs}
+
+-- a candidate with other outputs stands below none of these
+other-outputs : (o : ℕ) (c : Place) {ps : List Place} → (o ≡ c .outputs → ⊥) → Each (λ (d : Place). d .outputs ≡ o) ps → NotBelow ps c
+unfolding descends
+other-outputs o c other same =
+    each-none (λ (a : Place). descends a c) (each-imply (λ d e. rw (ne-eqb (d .outputs) (c .outputs) λ x. other (sym e ∙ x))) same)
+
+-- with all input sets from the first row on
+pub rows-whole : (inputs outputs : List ℕ) → rows inputs inputs outputs ≡ flatMap (withOutputs inputs) outputs
+unfolding rows flatMap
+rows-whole inputs [] = refl
+rows-whole inputs (o ∷ os) = refl
+
+module _ (n mi mo : ℕ) where
+  -- the candidates from the place (i, o) on
+  abbrev pub placesFrom : ℕ → ℕ → List Place
+  placesFrom i o = rows (from i (sets n mi)) (sets n mi) (from o (sets n mo))
+
+  module _ (few : n ≤ mostActivities) (some-codes : 1 ≤ n) (some-inputs : 1 ≤ mi) (i o : ℕ) (this : candidateSet n mo o ≡ true) where
+    -- the row at hand, and the rows after it from their first input set on
+    pub first-row : placesFrom i o ≡ withOutputs (from i (sets n mi)) o ++ placesFrom 1 (setAfter o (sets n mo))
+    unfolding rows
+    first-row =
+        ap (rows (from i (sets n mi)) (sets n mi)) (after-from n mo few o this)
+        ∙ ap
+        (_++_ (withOutputs (from i (sets n mi)) o))
+        (sym (ap (λ (l : List ℕ). rows l (sets n mi) (from (setAfter o (sets n mo)) (sets n mo))) (from-first n mi some-codes some-inputs) ∙ rows-whole (sets n mi) (from (setAfter o (sets n mo)) (sets n mo))))
+
+    -- the rows after it have other outputs
+    other-rows : Each (λ (c : Place). o ≡ c .outputs → ⊥) (placesFrom 1 (setAfter o (sets n mo)))
+    other-rows =
+        let after = from (setAfter o (sets n mo)) (sets n mo) in
+        let (before, split) = from-ends o (sets n mo) in
+        let distinct : Ordered (λ (s t : ℕ). s ≡ t → ⊥) (before ++ from o (sets n mo)) = subst (Ordered (λ (s t : ℕ). s ≡ t → ⊥)) split (sets-distinct n mo few) in
+        let others : Each (λ (t : ℕ). o ≡ t → ⊥) after = ordered-head (subst (Ordered (λ (s t : ℕ). s ≡ t → ⊥)) (after-from n mo few o this) (ordered-back before distinct)) in
+        rw (from-first n mi some-codes some-inputs, rows-whole (sets n mi) after)
+        (each-flatMap (withOutputs (sets n mi)) (each-imply (λ t other. each-map (λ (j : ℕ). place j t) (each-always (λ j. other) (sets n mi))) others))
+
+module _ (verdict : Place → Verdict) (budget n mi mo : ℕ) (all : List Place) (first : Run) (rejected₀ found₀ : List ℕ) where
+  -- the loop at the input set i and the output set o, 0 after the last
+  pub record OutputsLeft (i o : ℕ) (r : Run) (rejected found : List ℕ) : Type 0 where
+    pub inputs : candidateSet n mi i ≡ true
+    pub outputs : (o ≡ 0) ⊎ (candidateSet n mo o ≡ true)
+    pub reached : Reached verdict budget all first rejected₀ found₀ (placesFrom n mi mo i o) r rejected found
+    pub countable : r .visits + length (placesFrom n mi mo i o) < 2 ^ 32
+
+  -- the last row was taken
+  pub outputs-done : (i : ℕ) (r : Run) (rejected found : List ℕ) → OutputsLeft i 0 r rejected found
+      → Leaves (whole verdict budget all first rejected₀ found₀) rejected₀ found₀ r rejected found
+  unfolding rows
+  outputs-done i r rejected found at =
+      reached-end verdict budget all first rejected₀ found₀ r rejected found (rw (from-nothing n mo) at (at .reached))
+
+  module _
+      (few : n ≤ mostActivities)
+      (some-codes : 1 ≤ n)
+      (some-inputs : 1 ≤ mi)
+      (i o : ℕ)
+      (r : Run)
+      (rejected found : List ℕ)
+      (at : OutputsLeft i o r rejected found)
+      (more : o ≡ 0 → ⊥)
+    where
+      pub this-row : candidateSet n mo o ≡ true
+      this-row = go (at .outputs)
+        where
+          go : (o ≡ 0) ⊎ (candidateSet n mo o ≡ true) → candidateSet n mo o ≡ true
+          go (inl e) = absurd (more e)
+          go (inr e) = e
+
+      abbrev front : List Place
+      front = withOutputs (from i (sets n mi)) o
+
+      abbrev next : ℕ
+      next = setAfter o (sets n mo)
+
+      abbrev rest : List Place
+      rest = placesFrom n mi mo 1 next
+
+      split : placesFrom n mi mo i o ≡ front ++ rest
+      split = first-row n mi mo few some-codes some-inputs i o this-row
+
+      -- the row can be counted
+      pub row-countable : r .visits + length (from i (sets n mi)) < 2 ^ 32
+      row-countable =
+          omega (arith, at .countable, ap length split, length-append front rest, length-map (from i (sets n mi)) (λ (j : ℕ). place j o))
+
+      pub fewer-rows : length (from next (sets n mo)) < length (from o (sets n mo))
+      fewer-rows = omega (arith, ap length (after-from n mo few o this-row))
+
+      abbrev came : Progress
+      came = foldl (step verdict (capacityOf rejected found budget)) (going (stateIn r rejected found)) front
+
+      -- nothing of the further rows stands below what the row pruned
+      clear : Each (NotBelow (stateOf came .pruned)) rest
+      unfolding stateOf stateIn
+      clear =
+          let pruned = run-outputs verdict (capacityOf rejected found budget) o (going (stateIn r rejected found)) (each-map (λ (j : ℕ). place j o) (each-always (λ j. refl) (from i (sets n mi)))) each-nil in
+          each-imply (λ c other. other-outputs o c other pruned) (other-rows n mi mo few some-codes some-inputs i o this-row)
+
+      module _ (r′ : Run) (rejected′ found′ : List ℕ) (left : Leaves came rejected found r′ rejected′ found′) where
+        -- the row stopped the run
+        pub outputs-stop : (r′ .end ≡ 0 → ⊥) → Leaves (whole verdict budget all first rejected₀ found₀) rejected₀ found₀ r′ rejected′ found′
+        outputs-stop = reached-stop verdict budget all first rejected₀ found₀ front rest r rejected found (rw split at (at .reached)) left
+
+        -- the run goes on
+        pub outputs-on : r′ .end ≡ 0 → length rejected′ ≡ length rejected → length found′ ≡ length found
+            → OutputsLeft 1 next r′ rejected′ found′
+        outputs-on on kept kept′ =
+            let reached : Reached verdict budget all first rejected₀ found₀ (front ++ rest) r rejected found = rw split at (at .reached) in
+            record {
+              inputs = first-kind n mi few some-codes some-inputs;
+              outputs = after-kind n mo few o this-row;
+              reached = reached-on verdict budget all first rejected₀ found₀ front rest r rejected found reached left on kept kept′ clear;
+              countable = omega (
+                arith,
+                visits-left verdict budget all first rejected₀ found₀ front rest r rejected found reached left,
+                at .countable,
+                ap length split,
+              );
+            }

@@ -1,0 +1,178 @@
+-- `discovery::search::search_from` meets its contract. The loop's invariant: the candidates from the ones at hand on end as all do from the first on.
+-- The measure is the number of output sets.
+-- Assumes nothing.
+use native.Mathlib.Omega.{arith}
+use mathlib.Core.Path.{_∙_}
+use mathlib.Core.Logic.{inr}
+use lib.ListN.{length}
+use Rattle.places.specs.Candidates.{sets}
+use Rattle.places.specs.Succession.{from, candidatesFrom}
+use Rattle.log_format.specs.Lines.{framesOf}
+use Rattle.balances.specs.Judgement.{verdict}
+use Rattle.discovery.proofs.laws.Onward.{reached-start}
+use Rattle.discovery.proofs.laws.OutputsLeft.{placesFrom, OutputsLeft, outputs-done, this-row, row-countable, fewer-rows, outputs-stop, outputs-on}
+use Rattle.discovery.proofs.search.search_from.Statement.{statement}
+use Rattle.discovery.proofs.search.search_from.Tie as tie
+
+abbrev Inv-loop : tie.InvT-loop
+Inv-loop settings text budget rejected₀ found₀ run₀ inputs₀ outputs₀ rejected found run inputs outputs =
+    OutputsLeft
+    (verdict (settings .threshold) (framesOf text))
+    budget
+    (settings .activities)
+    (settings .inputs)
+    (settings .outputs)
+    (placesFrom (settings .activities) (settings .inputs) (settings .outputs) inputs₀ outputs₀)
+    run₀
+    rejected₀
+    found₀
+    inputs
+    outputs
+    run
+    rejected
+    found
+
+abbrev μ-loop : tie.MeasureT-loop
+μ-loop settings text budget rejected₀ found₀ run₀ inputs₀ outputs₀ rejected found run inputs outputs =
+    length (from outputs (sets (settings .activities) (settings .outputs)))
+
+loop-holds : tie.Need-loop-holds Inv-loop μ-loop
+unfolding candidatesFrom
+loop-holds c =
+    let pre = c .before .before .before .before .pre in
+    record { inputs = pre .2; outputs = inr (pre .3); reached = reached-start _ _ _ _ _ _ (pre .1); countable = pre .4 }
+
+search-inputs-requires : tie.Need-search-inputs-requires Inv-loop μ-loop
+search-inputs-requires c κs =
+    let l = c .before .before .before in
+    let known = l .before .before .before .before .before .pre .0 in (
+      known,
+      l .loop .inv .reached .stands,
+      l .loop .inv .inputs,
+      row-countable _ _ _ _ _ _ _ _ _
+          (known .few-activities)
+          (known .some-activities)
+          (known .some-inputs)
+          _
+          _
+          _
+          _
+          _
+          (l .loop .inv)
+          (c .before .before .loop-test .taken),
+    )
+
+returns : tie.Need-returns Inv-loop μ-loop
+unfolding candidatesFrom
+returns c =
+    let v = c .before .before .before .before .before .before in
+    let l = v .before .before .before .before in
+    let known = l .before .before .before .before .before .pre .0 in
+    outputs-stop _ _ _ _ _ _ _ _ _
+    (known .few-activities)
+    (known .some-activities)
+    (known .some-inputs)
+    (l .loop .inputs)
+    (l .loop .outputs)
+    (l .loop .run)
+    (l .loop .rejected)
+    (l .loop .found)
+    (l .loop .inv)
+    (v .before .before .before .loop-test .taken)
+    _
+    _
+    _
+    (v .search-inputs .ensures)
+    (λ e. c .if1 .taken (omega (arith, e)))
+
+set-after-requires : tie.Need-set-after-requires Inv-loop μ-loop
+set-after-requires c κs =
+    let v = c .before .before .before .before .before .before in
+    let l = v .before .before .before .before in
+    let known = l .before .before .before .before .before .pre .0 in (
+      known .few-activities,
+      this-row _ _ _ _ _ _ _ _ _
+          (known .few-activities)
+          (known .some-activities)
+          (known .some-inputs)
+          _
+          _
+          _
+          _
+          _
+          (l .loop .inv)
+          (v .before .before .before .loop-test .taken),
+    )
+
+loop-less : tie.Need-loop-less Inv-loop μ-loop
+loop-less c =
+    let v = c .before .before .before .before .before .before .before in
+    let l = v .before .before .before .before in
+    let known = l .before .before .before .before .before .pre .0 in
+    rw (c .set-after .ensures) (
+    fewer-rows _ _ _ _ _ _ _ _ _
+    (known .few-activities)
+    (known .some-activities)
+    (known .some-inputs)
+    _
+    _
+    _
+    _
+    _
+    (l .loop .inv)
+    (v .before .before .before .loop-test .taken)
+    )
+
+loop-again : tie.Need-loop-again Inv-loop μ-loop
+loop-again c =
+    let v = c .before .before .before .before .before .before .before in
+    let l = v .before .before .before .before in
+    let known = l .before .before .before .before .before .pre .0 in
+    rw (c .set-after .ensures) (
+    outputs-on _ _ _ _ _ _ _ _ _
+    (known .few-activities)
+    (known .some-activities)
+    (known .some-inputs)
+    (l .loop .inputs)
+    (l .loop .outputs)
+    (l .loop .run)
+    (l .loop .rejected)
+    (l .loop .found)
+    (l .loop .inv)
+    (v .before .before .before .loop-test .taken)
+    _
+    _
+    _
+    (v .search-inputs .ensures)
+    (c .before .if1 .left)
+    (v .search-inputs .kept .1 .1 .1 .0)
+    (v .search-inputs .kept .1 .1 .1 .1 .0)
+    )
+
+returns-2 : tie.Need-returns-2 Inv-loop μ-loop
+unfolding candidatesFrom
+returns-2 c =
+    let l = c .before .loop in
+    outputs-done _ _ _ _ _ _ _ _ _ (l .inputs) (l .run) (l .rejected) (l .found) (rw (c .loop-test .left) at (l .inv))
+
+pub search-from-spec : {M : Type 1} → statement M
+search-from-spec =
+    tie.close
+    (tie.spec
+    Inv-loop
+    μ-loop
+    loop-holds
+    search-inputs-requires
+    (λ c.
+    let v = c .before .before .before .before .before .before in
+    v .search-inputs .kept .1 .1 .1 .0 ∙ v .before .before .before .before .loop .inv .reached .rejected-length)  -- same-length
+    (λ c.
+    let v = c .before .before .before .before .before .before in
+    v .search-inputs .kept .1 .1 .1 .1 .0 ∙ v .before .before .before .before .loop .inv .reached .found-length)  -- same-length-2
+    returns
+    set-after-requires
+    loop-less
+    loop-again
+    (λ c. c .before .loop .inv .reached .rejected-length)  -- same-length-3
+    (λ c. c .before .loop .inv .reached .found-length)  -- same-length-4
+    returns-2)

@@ -1,0 +1,116 @@
+// The candidates one after the other: document 01, "The walk". A loop over output sets around one over input sets.
+ghost use mathlib.Core.Path.{_≡_};
+ghost use mathlib.Core.Bool.{true, cond};
+ghost use Prim.Native.Nat.{_+_, _≤_, _<_, _^_};
+ghost use lib.ListN.{length};
+ghost use Rattle.foundation.specs.Lists.{foldl};
+ghost use Rattle.limits.specs.Settings.{mostActivities};
+ghost use Rattle.places.specs.Candidates.{candidateSet, sets};
+ghost use Rattle.places.specs.Succession.{from, setAfter, setPast, withOutputs, candidatesFrom};
+ghost use Rattle.log_format.specs.Lines.{framesOf};
+ghost use Rattle.balances.specs.Judgement.{verdict};
+ghost use Rattle.candidate_search.specs.Search.{going, step};
+ghost use Rattle.candidate_search.specs.Discovery.{capacityOf};
+ghost use Rattle.discovery.specs.Standing.{Searchable, stateIn, Stands, Leaves};
+use crate::Position;
+use crate::candidate::visit_candidate;
+use candidate_search::Run;
+use limits::Settings;
+use places::Place;
+use places::set::set_after;
+use places::set::set_past;
+
+// The input set whose turn comes after a given one: the next one, or where its descendants are pruned the next one past them.
+fn next_inputs(settings: Settings, inputs: u16, prune: bool) -> u16
+    requires { ⌜ (settings .activities ≤ mostActivities) × (candidateSet (settings .activities) (settings .inputs) inputs ≡ true) ⌝ }
+    ensures { λ r. ⌜ r ≡ (let list = sets (settings .activities) (settings .inputs) in cond prune (setPast inputs list) (setAfter inputs list)) ⌝ }
+{
+    if prune {
+        set_past(settings.activities, inputs)
+    } else {
+        set_after(settings.activities, settings.inputs, inputs)
+    }
+}
+
+// The candidates with the outputs of the one at which the run stands, from that one on.
+fn search_inputs(
+    settings: Settings,
+    text: &[u8],
+    budget: u32,
+    rejected: &mut [u64],
+    found: &mut [u32],
+    position: Position,
+) -> Run
+    requires { ⌜ Searchable settings (now text) × Stands (position .run) (now rejected) (now found)
+        × (candidateSet (settings .activities) (settings .inputs) (position .candidate .inputs) ≡ true)
+        × (position .run .visits + length (from (position .candidate .inputs) (sets (settings .activities) (settings .inputs))) < 2 ^ 32) ⌝ }
+    ensures { λ r. ⌜ Leaves
+        (foldl (step (verdict (settings .threshold) (framesOf (now (text .entry)))) (capacityOf (now (rejected .entry)) (now (found .entry)) budget))
+        (going (stateIn (position .run) (now (rejected .entry)) (now (found .entry))))
+        (withOutputs (from (position .candidate .inputs) (sets (settings .activities) (settings .inputs))) (position .candidate .outputs)))
+        (now (rejected .entry)) (now (found .entry)) r (now (rejected .exit)) (now (found .exit)) ⌝ }
+{
+    let outputs = position.candidate.outputs;
+    let mut run = position.run;
+    let mut inputs = position.candidate.inputs;
+    while inputs != 0 {
+        let turn = visit_candidate(
+            settings.threshold,
+            text,
+            budget,
+            rejected,
+            found,
+            run,
+            Place { inputs, outputs },
+        );
+        if turn.run.end != 0 {
+            return turn.run;
+        }
+        run = turn.run;
+        inputs = next_inputs(settings, inputs, turn.prune);
+    }
+    run
+}
+
+// The candidates from the one at which the run stands on.
+pub fn search_from(
+    settings: Settings,
+    text: &[u8],
+    budget: u32,
+    rejected: &mut [u64],
+    found: &mut [u32],
+    position: Position,
+) -> Run
+    requires { ⌜ Searchable settings (now text) × Stands (position .run) (now rejected) (now found)
+        × (candidateSet (settings .activities) (settings .inputs) (position .candidate .inputs) ≡ true)
+        × (candidateSet (settings .activities) (settings .outputs) (position .candidate .outputs) ≡ true)
+        × (position .run .visits + length (candidatesFrom settings (position .candidate)) < 2 ^ 32) ⌝ }
+    ensures { λ r. ⌜ Leaves
+        (foldl (step (verdict (settings .threshold) (framesOf (now (text .entry)))) (capacityOf (now (rejected .entry)) (now (found .entry)) budget))
+        (going (stateIn (position .run) (now (rejected .entry)) (now (found .entry))))
+        (candidatesFrom settings (position .candidate)))
+        (now (rejected .entry)) (now (found .entry)) r (now (rejected .exit)) (now (found .exit)) ⌝ }
+{
+    let mut run = position.run;
+    let mut inputs = position.candidate.inputs;
+    let mut outputs = position.candidate.outputs;
+    while outputs != 0 {
+        run = search_inputs(
+            settings,
+            text,
+            budget,
+            rejected,
+            found,
+            Position {
+                run,
+                candidate: Place { inputs, outputs },
+            },
+        );
+        if run.end != 0 {
+            return run;
+        }
+        inputs = 1;
+        outputs = set_after(settings.activities, settings.outputs, outputs);
+    }
+    run
+}
