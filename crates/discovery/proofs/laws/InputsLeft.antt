@@ -23,7 +23,7 @@ use Rattle.candidate_search.specs.declared.Run.{Run}
 use Rattle.candidate_search.specs.Search.{Progress, going, isPruned, visit, step, stateOf}
 use Rattle.candidate_search.specs.Discovery.{capacityOf}
 use Rattle.discovery.specs.Standing.{stateIn, Leaves, prunes}
-use Rattle.discovery.proofs.laws.Onward.{whole, Reached, reached-end, visits-left, reached-stop, reached-on}
+use Rattle.discovery.proofs.laws.Onward.{Beginning, over, Done, Reached, reached-end, visits-left, reached-stop, reached-on}
 use Rattle.discovery.proofs.laws.PrunedAside.{NotBelow, run-pruned}
 use Rattle.candidate_search.proofs.laws.RunSteps.{PrunedWith, Stepped, step-made}
 
@@ -66,20 +66,26 @@ module _ (verdict : Place → Verdict) (budget : ℕ) (r : Run) (rejected found 
 abbrev pub inputsFrom : ℕ → ℕ → ℕ → ℕ → List Place
 inputsFrom n m o i = withOutputs (from i (sets n m)) o
 
-module _ (verdict : Place → Verdict) (budget n m o : ℕ) (all : List Place) (first : Run) (rejected₀ found₀ : List ℕ) where
-  -- the loop at the input set i, 0 after the last
-  pub record InputsLeft (i : ℕ) (r : Run) (rejected found : List ℕ) : Type 0 where
-    pub set : (i ≡ 0) ⊎ (candidateSet n m i ≡ true)
-    pub reached : Reached verdict budget all first rejected₀ found₀ (inputsFrom n m o i) r rejected found
-    pub countable : r .visits + length (inputsFrom n m o i) < 2 ^ 32
+-- the loop at the input set i, 0 after the last
+pub record InputsLeft (b : Beginning) (n m o i : ℕ) (r : Run) (rejected found : List ℕ) : Type 0 where
+  pub set : (i ≡ 0) ⊎ (candidateSet n m i ≡ true)
+  pub reached : Reached b (inputsFrom n m o i) r rejected found
+  pub countable : r .visits + length (inputsFrom n m o i) < 2 ^ 32
 
-  -- the last set was taken
-  pub inputs-done : (r : Run) (rejected found : List ℕ) → InputsLeft 0 r rejected found
-      → Leaves (whole verdict budget all first rejected₀ found₀) rejected₀ found₀ r rejected found
-  inputs-done r rejected found at =
-      reached-end verdict budget all first rejected₀ found₀ r rejected found (rw (from-nothing n m) at (at .reached))
+-- the last set was taken
+pub inputs-done : {b : Beginning} {n m o i : ℕ} {r : Run} {rejected found : List ℕ} → InputsLeft b n m o i r rejected found → i ≡ 0
+    → Done b r rejected found
+inputs-done {n = n} {m = m} at none = reached-end (rw (none, from-nothing n m) at (at .reached))
 
-  module _ (few : n ≤ mostActivities) (i : ℕ) (r : Run) (rejected found : List ℕ) (at : InputsLeft i r rejected found) (more : i ≡ 0 → ⊥) where
+module _
+    {b : Beginning}
+    {n m o i : ℕ}
+    {r : Run}
+    {rejected found : List ℕ}
+    (few : n ≤ mostActivities)
+    (at : InputsLeft b n m o i r rejected found)
+    (more : i ≡ 0 → ⊥)
+  where
     pub this-set : candidateSet n m i ≡ true
     this-set = go (at .set)
       where
@@ -94,35 +100,39 @@ module _ (verdict : Place → Verdict) (budget n m o : ℕ) (all : List Place) (
     abbrev c : Place
     c = place i o
 
-    abbrev stepping : Progress → Place → Progress
-    stepping = step verdict (capacityOf rejected found budget)
+    -- what the candidate's turn came to
+    abbrev came : Progress
+    came = turned (b .verdict) (b .budget) r rejected found c
 
     -- what a turn takes up to the input set `after`
     record Taken (after : ℕ) : Type 0 where
       front : List Place
       some : 0 < length front
       split : inputsFrom n m o i ≡ front ++ inputsFrom n m o after
-      came : foldl stepping (going (stateIn r rejected found)) front ≡ turned verdict budget r rejected found c
-      clear : Each (NotBelow (stateOf (turned verdict budget r rejected found c) .pruned)) (inputsFrom n m o after)
+      comes : over b front r rejected found ≡ came
+      clear : Each (NotBelow (stateOf came .pruned)) (inputsFrom n m o after)
       kind : (after ≡ 0) ⊎ (candidateSet n m after ≡ true)
 
-    below-it : (j : ℕ) (b : Bool) → extends i j ≡ b → (descends c (place j o) || false) ≡ b
-    below-it j b x = or-false (descends c (place j o)) ∙ same-outputs i j o ∙ x
+    below-it : (j : ℕ) (t : Bool) → extends i j ≡ t → (descends c (place j o) || false) ≡ t
+    below-it j t x = or-false (descends c (place j o)) ∙ same-outputs i j o ∙ x
 
     -- the candidate and its descendants
-    taken-pruned : prunes (turned verdict budget r rejected found c) ≡ true → Taken (setPast i (sets n m))
+    taken-pruned : prunes came ≡ true → Taken (setPast i (sets n m))
     unfolding stateOf isPruned
     taken-pruned e =
         let past = past-from n m few i this-set in
-        let pruned = turn-prunes verdict budget r rejected found c e in
+        let pruned = turn-prunes (b .verdict) (b .budget) r rejected found c e in
+        let room = capacityOf rejected found (b .budget) in
         let of : ℕ → Place = λ j. place j o in
         record {
           front = c ∷ withOutputs (past .extending) o;
           some = omega arith;
           split = ap (λ (l : List ℕ). withOutputs l o) (past .split)
               ∙ ap (_∷_ c) (map-append of (past .extending) (from (setPast i (sets n m)) (sets n m)));
-          came = ap (λ (p : Progress). foldl stepping p (withOutputs (past .extending) o)) (turn-is verdict budget r rejected found c ∙ pruned .on)
-              ∙ run-pruned verdict (capacityOf rejected found budget) (pruned .state) (
+          comes = ap
+              (λ (p : Progress). foldl (step (b .verdict) room) p (withOutputs (past .extending) o))
+              (turn-is (b .verdict) (b .budget) r rejected found c ∙ pruned .on)
+              ∙ run-pruned (b .verdict) room (pruned .state) (
               each-map of (each-imply (λ j x. rw (pruned .pruned) (below-it j true x)) (past .extend))
               )
               ∙ sym (pruned .on);
@@ -131,14 +141,16 @@ module _ (verdict : Place → Verdict) (budget n m o : ℕ) (all : List Place) (
         }
 
     -- the candidate alone
-    taken-alone : prunes (turned verdict budget r rejected found c) ≡ false → Taken (setAfter i (sets n m))
+    taken-alone : prunes came ≡ false → Taken (setAfter i (sets n m))
     taken-alone e =
         record {
           front = c ∷ [];
           some = omega arith;
           split = ap (λ (l : List ℕ). withOutputs l o) (after-from n m few i this-set);
-          came = turn-is verdict budget r rejected found c;
-          clear = rw (turn-leaves verdict budget r rejected found c e) (each-always (λ d. refl) (inputsFrom n m o (setAfter i (sets n m))));
+          comes = turn-is (b .verdict) (b .budget) r rejected found c;
+          clear =
+              rw (turn-leaves (b .verdict) (b .budget) r rejected found c e)
+              (each-always (λ d. refl) (inputsFrom n m o (setAfter i (sets n m))));
           kind = after-kind n m few i this-set;
         }
 
@@ -146,55 +158,33 @@ module _ (verdict : Place → Verdict) (budget n m o : ℕ) (all : List Place) (
     abbrev pub nextSet : Bool → ℕ
     nextSet prune = cond prune (setPast i (sets n m)) (setAfter i (sets n m))
 
-    taken : (prune : Bool) → prune ≡ prunes (turned verdict budget r rejected found c) → Taken (nextSet prune)
+    taken : (prune : Bool) → prune ≡ prunes came → Taken (nextSet prune)
     taken true e = taken-pruned (sym e)
     taken false e = taken-alone (sym e)
 
-    module _ (prune : Bool) (e : prune ≡ prunes (turned verdict budget r rejected found c)) where
+    module _ {prune : Bool} (e : prune ≡ prunes came) where
       pub fewer-left : length (inputsFrom n m o (nextSet prune)) < length (inputsFrom n m o i)
       fewer-left =
           let t = taken prune e in
           rw (t .split) (omega (arith, t .some, length-append (t .front) (inputsFrom n m o (nextSet prune))))
 
-      module _ (r′ : Run) (rejected′ found′ : List ℕ) (left : Leaves (turned verdict budget r rejected found c) rejected found r′ rejected′ found′) where
+      module _ {r′ : Run} {rejected′ found′ : List ℕ} (left : Leaves came rejected found r′ rejected′ found′) where
         -- the turn stopped the run
-        pub inputs-stop : (r′ .end ≡ 0 → ⊥) → Leaves (whole verdict budget all first rejected₀ found₀) rejected₀ found₀ r′ rejected′ found′
+        pub inputs-stop : (r′ .end ≡ 0 → ⊥) → Done b r′ rejected′ found′
         inputs-stop off =
             let t = taken prune e in
-            reached-stop verdict budget all first rejected₀ found₀ (t .front) (inputsFrom n m o (nextSet prune)) r rejected found (rw (t .split) at (at .reached)) (rw (t .came) left) off
+            reached-stop (t .front) (inputsFrom n m o (nextSet prune)) (rw (t .split) at (at .reached)) (rw (t .comes) left) off
 
         -- the run goes on
         pub inputs-on : r′ .end ≡ 0 → length rejected′ ≡ length rejected → length found′ ≡ length found
-            → InputsLeft (nextSet prune) r′ rejected′ found′
+            → InputsLeft b n m o (nextSet prune) r′ rejected′ found′
         inputs-on on kept kept′ =
             let t = taken prune e in
             let rest = inputsFrom n m o (nextSet prune) in
-            let reached : Reached verdict budget all first rejected₀ found₀ (t .front ++ rest) r rejected found = rw (t .split) at (at .reached) in
-            let came : Leaves (foldl stepping (going (stateIn r rejected found)) (t .front)) rejected found r′ rejected′ found′ = rw (t .came) left in
+            let reached : Reached b (t .front ++ rest) r rejected found = rw (t .split) at (at .reached) in
+            let left-by : Leaves (over b (t .front) r rejected found) rejected found r′ rejected′ found′ = rw (t .comes) left in
             record {
               set = t .kind;
-              reached = reached-on
-                  verdict
-                  budget
-                  all
-                  first
-                  rejected₀
-                  found₀
-                  (t .front)
-                  rest
-                  r
-                  rejected
-                  found
-                  reached
-                  came
-                  on
-                  kept
-                  kept′
-                  (rw (t .came) (t .clear));
-              countable = omega (
-                arith,
-                visits-left verdict budget all first rejected₀ found₀ (t .front) rest r rejected found reached came,
-                at .countable,
-                ap length (t .split),
-              );
+              reached = reached-on (t .front) rest reached left-by on kept kept′ (rw (t .comes) (t .clear));
+              countable = omega (arith, visits-left (t .front) rest reached left-by, at .countable, ap length (t .split));
             }

@@ -119,62 +119,83 @@ leaves-stands p {rejected = rejected} {found = found} left on kept kept′ =
     }
 
 -- the tail of a buffer that was written over from its front, and then over again with no fewer words
-tail-onward : (buffer₀ buffer buffer′ written : List ℕ) (n n′ : ℕ)
+tail-onward : (written : List ℕ) {buffer₀ buffer buffer′ : List ℕ} {n n′ : ℕ}
     → ((words : List ℕ) → n ≤ length words → overwrite words buffer ≡ overwrite words buffer₀) → buffer′ ≡ overwrite written buffer
     → n ≤ length written → n′ ≡ length written → (words : List ℕ) → n′ ≤ length words → overwrite words buffer′ ≡ overwrite words buffer₀
-tail-onward buffer₀ buffer buffer′ written n n′ tail e grown count words l =
+tail-onward written {buffer = buffer} tail e grown count words l =
     rw e (overwrite-again buffer written words (omega arith) ∙ tail words (omega arith))
 
--- the whole run, from the candidates, counts and buffers at the start
-module _ (verdict : Place → Verdict) (budget : ℕ) (all : List Place) (first : Run) (rejected₀ found₀ : List ℕ) where
-  abbrev pub whole : Progress
-  whole = foldl (step verdict (capacityOf rejected₀ found₀ budget)) (going (stateIn first rejected₀ found₀)) all
+-- a run at its start: the verdicts and the budget, the candidates, and the counts and the two buffers
+pub record Beginning : Type 0 where
+  pub verdict : Place → Verdict
+  pub budget : ℕ
+  pub candidates : List Place
+  pub run : Run
+  pub rejected : List ℕ
+  pub found : List ℕ
 
-  -- what is to come ends as the whole run
-  pub record Reached (rest : List Place) (r : Run) (rejected found : List ℕ) : Type 0 where
-    pub stands : Stands r rejected found
-    pub rejected-length : length rejected ≡ length rejected₀
-    pub found-length : length found ≡ length found₀
-    pub rejected-tail : (words : List ℕ) → r .rejected ≤ length words → overwrite words rejected ≡ overwrite words rejected₀
-    pub found-tail : (words : List ℕ) → r .found ≤ length words → overwrite words found ≡ overwrite words found₀
-    pub alike : Alike (foldl (step verdict (capacityOf rejected found budget)) (going (stateIn r rejected found)) rest) whole
+-- the run over some candidates, from counts and buffers on
+abbrev pub over : Beginning → List Place → Run → List ℕ → List ℕ → Progress
+over b cs r rejected found = foldl (step (b .verdict) (capacityOf rejected found (b .budget))) (going (stateIn r rejected found)) cs
 
-  pub reached-start : Stands first rejected₀ found₀ → Reached all first rejected₀ found₀
-  reached-start stands =
-      record {
-        stands = stands;
-        rejected-length = refl;
-        found-length = refl;
-        rejected-tail = λ words l. refl;
-        found-tail = λ words l. refl;
-        alike = alike-same refl;
-      }
+-- the whole run
+abbrev pub whole : Beginning → Progress
+whole b = over b (b .candidates) (b .run) (b .rejected) (b .found)
 
-  module _ (rest : List Place) (r : Run) (rejected found : List ℕ) (at : Reached rest r rejected found) where
-    -- what progress that ends as the whole run leaves is what the whole run leaves
-    leaves-whole : (p : Progress) → Grown (stateIn r rejected found) p → Alike p whole → {r′ : Run} {rejected′ found′ : List ℕ}
-        → Leaves p rejected found r′ rejected′ found′ → Leaves whole rejected₀ found₀ r′ rejected′ found′
+-- what a function owes that made the whole run
+abbrev pub Done : Beginning → Run → List ℕ → List ℕ → Type 0
+Done b = Leaves (whole b) (b .rejected) (b .found)
+
+-- what is to come ends as the whole run
+pub record Reached (b : Beginning) (rest : List Place) (r : Run) (rejected found : List ℕ) : Type 0 where
+  pub stands : Stands r rejected found
+  pub rejected-length : length rejected ≡ length (b .rejected)
+  pub found-length : length found ≡ length (b .found)
+  pub rejected-tail : (words : List ℕ) → r .rejected ≤ length words → overwrite words rejected ≡ overwrite words (b .rejected)
+  pub found-tail : (words : List ℕ) → r .found ≤ length words → overwrite words found ≡ overwrite words (b .found)
+  pub alike : Alike (over b rest r rejected found) (whole b)
+
+pub reached-start : (b : Beginning) → Stands (b .run) (b .rejected) (b .found) → Reached b (b .candidates) (b .run) (b .rejected) (b .found)
+reached-start b stands =
+    record {
+      stands = stands;
+      rejected-length = refl;
+      found-length = refl;
+      rejected-tail = λ words l. refl;
+      found-tail = λ words l. refl;
+      alike = alike-same refl;
+    }
+
+module _ {b : Beginning} {r : Run} {rejected found : List ℕ} where
+  module _ {rest : List Place} (at : Reached b rest r rejected found) (p : Progress) (grown : Grown (stateIn r rejected found) p) where
+    -- the words that the state had are among those after it
+    rejected-grown : r .rejected ≤ length (stateOf p .rejected)
     unfolding stateIn
-    leaves-whole p grown like left =
+    rejected-grown = omega (arith, grown .rejected, length-take-le (r .rejected) rejected (at .stands .rejected-there))
+
+    found-grown : r .found ≤ length (stateOf p .found)
+    unfolding stateIn
+    found-grown = omega (arith, grown .found, length-take-le (r .found) found (at .stands .found-there))
+
+    -- what progress that ends as the whole run leaves is what the whole run leaves
+    leaves-whole : Alike p (whole b) → {r′ : Run} {rejected′ found′ : List ℕ} → Leaves p rejected found r′ rejected′ found′
+        → Done b r′ rejected′ found′
+    leaves-whole like left =
         record {
           answered = left .answered ∙ like .answers;
           rejected-left = left .rejected-left
-              ∙ at .rejected-tail (stateOf p .rejected) (omega (arith, grown .rejected, length-take-le (r .rejected) rejected (at .stands .rejected-there)))
-              ∙ ap (λ (words : List ℕ). overwrite words rejected₀) (like .rejected);
+              ∙ at .rejected-tail (stateOf p .rejected) rejected-grown
+              ∙ ap (λ (words : List ℕ). overwrite words (b .rejected)) (like .rejected);
           found-left = left .found-left
-              ∙ at .found-tail (stateOf p .found) (omega (arith, grown .found, length-take-le (r .found) found (at .stands .found-there)))
-              ∙ ap (λ (words : List ℕ). overwrite words found₀) (like .found);
+              ∙ at .found-tail (stateOf p .found) found-grown
+              ∙ ap (λ (words : List ℕ). overwrite words (b .found)) (like .found);
         }
 
   -- nothing is to come
-  pub reached-end : (r : Run) (rejected found : List ℕ) → Reached [] r rejected found → Leaves whole rejected₀ found₀ r rejected found
+  pub reached-end : Reached b [] r rejected found → Done b r rejected found
   unfolding stateOf
-  reached-end r rejected found at =
+  reached-end at =
       leaves-whole
-      []
-      r
-      rejected
-      found
       at
       (going (stateIn r rejected found))
       (record { rejected = le-refl _; found = le-refl _ })
@@ -182,18 +203,20 @@ module _ (verdict : Place → Verdict) (budget : ℕ) (all : List Place) (first 
       (stands-leaves (at .stands))
 
   -- the front was taken
-  module _ (front rest : List Place) (r : Run) (rejected found : List ℕ) (at : Reached (front ++ rest) r rejected found) where
+  module _ (front rest : List Place) (at : Reached b (front ++ rest) r rejected found) where
+    abbrev room : Capacity
+    room = capacityOf rejected found (b .budget)
+
     -- what the front came to
     abbrev taken : Progress
-    taken = foldl (step verdict (capacityOf rejected found budget)) (going (stateIn r rejected found)) front
+    taken = over b front r rejected found
 
-    joined : foldl (step verdict (capacityOf rejected found budget)) (going (stateIn r rejected found)) (front ++ rest)
-        ≡ foldl (step verdict (capacityOf rejected found budget)) taken rest
-    joined = run-append verdict (capacityOf rejected found budget) (going (stateIn r rejected found)) front rest
+    joined : over b (front ++ rest) r rejected found ≡ foldl (step (b .verdict) room) taken rest
+    joined = run-append (b .verdict) room (going (stateIn r rejected found)) front rest
 
     grown : Grown (stateIn r rejected found) taken
     unfolding stateOf
-    grown = run-grown verdict (capacityOf rejected found budget) front (going (stateIn r rejected found))
+    grown = run-grown (b .verdict) room front (going (stateIn r rejected found))
 
     module _ {r′ : Run} {rejected′ found′ : List ℕ} (left : Leaves taken rejected found r′ rejected′ found′) where
       -- a candidate counts as one visit at most
@@ -202,55 +225,40 @@ module _ (verdict : Place → Verdict) (budget : ℕ) (all : List Place) (first 
       visits-left =
           omega (
             arith,
-            run-visits verdict (capacityOf rejected found budget) front (going (stateIn r rejected found)),
+            run-visits (b .verdict) room front (going (stateIn r rejected found)),
             ap (λ (x : Run). x .visits) (left .answered),
             length-append front rest,
           )
 
       -- and it stopped the run
-      pub reached-stop : (r′ .end ≡ 0 → ⊥) → Leaves whole rejected₀ found₀ r′ rejected′ found′
+      pub reached-stop : (r′ .end ≡ 0 → ⊥) → Done b r′ rejected′ found′
       reached-stop off =
           leaves-whole
-          (front ++ rest)
-          r
-          rejected
-          found
           at
           taken
           grown
-          (alike-trans (alike-same (sym (joined ∙ ended verdict (capacityOf rejected found budget) taken left off rest))) (at .alike))
+          (alike-trans (alike-same (sym (joined ∙ ended (b .verdict) room taken left off rest))) (at .alike))
           left
+
+      alike-onward : r′ .end ≡ 0 → length rejected′ ≡ length rejected → length found′ ≡ length found
+          → Each (NotBelow (stateOf taken .pruned)) rest → Alike (over b rest r′ rejected′ found′) (whole b)
+      alike-onward on kept kept′ clear =
+          let given = run-end-given (b .verdict) room front (going (stateIn r rejected found)) tt in
+          rw (same-room rejected found rejected′ found′ (b .budget) kept kept′) (
+          alike-trans (resumed (b .verdict) room taken given left on clear) (alike-trans (alike-same (sym joined)) (at .alike))
+          )
 
       -- and it goes on
       pub reached-on : r′ .end ≡ 0 → length rejected′ ≡ length rejected → length found′ ≡ length found
-          → Each (NotBelow (stateOf taken .pruned)) rest → Reached rest r′ rejected′ found′
-      unfolding stateIn summary
+          → Each (NotBelow (stateOf taken .pruned)) rest → Reached b rest r′ rejected′ found′
+      unfolding summary
       reached-on on kept kept′ clear =
           record {
             stands = leaves-stands taken left on kept kept′;
             rejected-length = kept ∙ at .rejected-length;
             found-length = kept′ ∙ at .found-length;
-            rejected-tail = tail-onward
-                rejected₀
-                rejected
-                rejected′
-                (stateOf taken .rejected)
-                (r .rejected)
-                (r′ .rejected)
-                (at .rejected-tail)
-                (left .rejected-left)
-                (omega (arith, grown .rejected, length-take-le (r .rejected) rejected (at .stands .rejected-there)))
-                (ap (λ (x : Run). x .rejected) (left .answered));
-            found-tail = tail-onward
-                found₀
-                found
-                found′
-                (stateOf taken .found)
-                (r .found)
-                (r′ .found)
-                (at .found-tail)
-                (left .found-left)
-                (omega (arith, grown .found, length-take-le (r .found) found (at .stands .found-there)))
-                (ap (λ (x : Run). x .found) (left .answered));
-            alike = rw (same-room rejected found rejected′ found′ budget kept kept′) (alike-trans (resumed verdict (capacityOf rejected found budget) taken (run-end-given verdict (capacityOf rejected found budget) front (going (stateIn r rejected found)) tt) left on clear) (alike-trans (alike-same (sym joined)) (at .alike)));
+            rejected-tail =
+                tail-onward (stateOf taken .rejected) (at .rejected-tail) (left .rejected-left) (rejected-grown at taken grown) (ap (λ (x : Run). x .rejected) (left .answered));
+            found-tail = tail-onward (stateOf taken .found) (at .found-tail) (left .found-left) (found-grown at taken grown) (ap (λ (x : Run). x .found) (left .answered));
+            alike = alike-onward on kept kept′ clear;
           }

@@ -10,7 +10,7 @@ use mathlib.Core.Bool.{true}
 use mathlib.Core.List.{List, [], _∷_, _++_, flatMap}
 use lib.ListN.{length, length-append, length-map}
 use borrow.Author.Tests.{ne-eqb}
-use Rattle.foundation.specs.Lists.{Each, each-nil, Ordered, foldl}
+use Rattle.foundation.specs.Lists.{Each, each-nil, Ordered}
 use Rattle.foundation.proofs.laws.Each.{each-map, each-imply, each-always, each-none, each-flatMap}
 use Rattle.foundation.proofs.laws.Ordered.{ordered-back, ordered-head}
 use Rattle.limits.specs.Settings.{mostActivities}
@@ -21,12 +21,11 @@ use Rattle.places.specs.Succession.{from, setAfter, withOutputs, rows}
 use Rattle.places.proofs.laws.From.{from-ends}
 use Rattle.places.proofs.laws.SetOrder.{sets-distinct}
 use Rattle.places.proofs.laws.Succession.{from-nothing, from-first, first-kind, after-from, after-kind}
-use Rattle.balances.specs.declared.Verdict.{Verdict}
 use Rattle.candidate_search.specs.declared.Run.{Run}
-use Rattle.candidate_search.specs.Search.{Progress, going, step, stateOf}
+use Rattle.candidate_search.specs.Search.{going, stateOf}
 use Rattle.candidate_search.specs.Discovery.{capacityOf}
 use Rattle.discovery.specs.Standing.{stateIn, Leaves}
-use Rattle.discovery.proofs.laws.Onward.{whole, Reached, reached-end, visits-left, reached-stop, reached-on}
+use Rattle.discovery.proofs.laws.Onward.{Beginning, over, Done, Reached, reached-end, visits-left, reached-stop, reached-on}
 use Rattle.discovery.proofs.laws.PrunedAside.{NotBelow}
 use Rattle.candidate_search.proofs.laws.RunSteps.{run-outputs}
 
@@ -67,86 +66,87 @@ module _ (n mi mo : ℕ) where
         rw (from-first n mi some-codes some-inputs, rows-whole (sets n mi) after)
         (each-flatMap (withOutputs (sets n mi)) (each-imply (λ t other. each-map (λ (j : ℕ). place j t) (each-always (λ j. other) (sets n mi))) others))
 
-module _ (verdict : Place → Verdict) (budget n mi mo : ℕ) (all : List Place) (first : Run) (rejected₀ found₀ : List ℕ) where
-  -- the loop at the input set i and the output set o, 0 after the last
-  pub record OutputsLeft (i o : ℕ) (r : Run) (rejected found : List ℕ) : Type 0 where
-    pub inputs : candidateSet n mi i ≡ true
-    pub outputs : (o ≡ 0) ⊎ (candidateSet n mo o ≡ true)
-    pub reached : Reached verdict budget all first rejected₀ found₀ (placesFrom n mi mo i o) r rejected found
-    pub countable : r .visits + length (placesFrom n mi mo i o) < 2 ^ 32
+-- the loop at the input set i and the output set o, 0 after the last
+pub record OutputsLeft (b : Beginning) (n mi mo i o : ℕ) (r : Run) (rejected found : List ℕ) : Type 0 where
+  pub inputs : candidateSet n mi i ≡ true
+  pub outputs : (o ≡ 0) ⊎ (candidateSet n mo o ≡ true)
+  pub reached : Reached b (placesFrom n mi mo i o) r rejected found
+  pub countable : r .visits + length (placesFrom n mi mo i o) < 2 ^ 32
 
-  -- the last row was taken
-  pub outputs-done : (i : ℕ) (r : Run) (rejected found : List ℕ) → OutputsLeft i 0 r rejected found
-      → Leaves (whole verdict budget all first rejected₀ found₀) rejected₀ found₀ r rejected found
-  unfolding rows
-  outputs-done i r rejected found at =
-      reached-end verdict budget all first rejected₀ found₀ r rejected found (rw (from-nothing n mo) at (at .reached))
+-- the last row was taken
+pub outputs-done : {b : Beginning} {n mi mo i o : ℕ} {r : Run} {rejected found : List ℕ} → OutputsLeft b n mi mo i o r rejected found → o ≡ 0
+    → Done b r rejected found
+unfolding rows
+outputs-done {n = n} {mo = mo} at none = reached-end (rw (none, from-nothing n mo) at (at .reached))
 
-  module _
-      (few : n ≤ mostActivities)
-      (some-codes : 1 ≤ n)
-      (some-inputs : 1 ≤ mi)
-      (i o : ℕ)
-      (r : Run)
-      (rejected found : List ℕ)
-      (at : OutputsLeft i o r rejected found)
-      (more : o ≡ 0 → ⊥)
-    where
-      pub this-row : candidateSet n mo o ≡ true
-      this-row = go (at .outputs)
-        where
-          go : (o ≡ 0) ⊎ (candidateSet n mo o ≡ true) → candidateSet n mo o ≡ true
-          go (inl e) = absurd (more e)
-          go (inr e) = e
+-- what the loop knows of the settings
+pub record Ranges (n mi : ℕ) : Type 0 where
+  pub few : n ≤ mostActivities
+  pub some-codes : 1 ≤ n
+  pub some-inputs : 1 ≤ mi
 
-      abbrev front : List Place
-      front = withOutputs (from i (sets n mi)) o
+module _
+    {b : Beginning}
+    {n mi mo i o : ℕ}
+    {r : Run}
+    {rejected found : List ℕ}
+    (ranges : Ranges n mi)
+    (at : OutputsLeft b n mi mo i o r rejected found)
+    (more : o ≡ 0 → ⊥)
+  where
+    pub this-row : candidateSet n mo o ≡ true
+    this-row = go (at .outputs)
+      where
+        go : (o ≡ 0) ⊎ (candidateSet n mo o ≡ true) → candidateSet n mo o ≡ true
+        go (inl e) = absurd (more e)
+        go (inr e) = e
 
-      abbrev next : ℕ
-      next = setAfter o (sets n mo)
+    abbrev front : List Place
+    front = withOutputs (from i (sets n mi)) o
 
-      abbrev rest : List Place
-      rest = placesFrom n mi mo 1 next
+    abbrev next : ℕ
+    next = setAfter o (sets n mo)
 
-      split : placesFrom n mi mo i o ≡ front ++ rest
-      split = first-row n mi mo few some-codes some-inputs i o this-row
+    abbrev rest : List Place
+    rest = placesFrom n mi mo 1 next
 
-      -- the row can be counted
-      pub row-countable : r .visits + length (from i (sets n mi)) < 2 ^ 32
-      row-countable =
-          omega (arith, at .countable, ap length split, length-append front rest, length-map (from i (sets n mi)) (λ (j : ℕ). place j o))
+    split : placesFrom n mi mo i o ≡ front ++ rest
+    split = first-row n mi mo (ranges .few) (ranges .some-codes) (ranges .some-inputs) i o this-row
 
-      pub fewer-rows : length (from next (sets n mo)) < length (from o (sets n mo))
-      fewer-rows = omega (arith, ap length (after-from n mo few o this-row))
+    -- the row can be counted
+    pub row-countable : r .visits + length (from i (sets n mi)) < 2 ^ 32
+    row-countable =
+        omega (arith, at .countable, ap length split, length-append front rest, length-map (from i (sets n mi)) (λ (j : ℕ). place j o))
 
-      abbrev came : Progress
-      came = foldl (step verdict (capacityOf rejected found budget)) (going (stateIn r rejected found)) front
+    pub fewer-rows : length (from next (sets n mo)) < length (from o (sets n mo))
+    fewer-rows = omega (arith, ap length (after-from n mo (ranges .few) o this-row))
 
-      -- nothing of the further rows stands below what the row pruned
-      clear : Each (NotBelow (stateOf came .pruned)) rest
-      unfolding stateOf stateIn
-      clear =
-          let pruned = run-outputs verdict (capacityOf rejected found budget) o (going (stateIn r rejected found)) (each-map (λ (j : ℕ). place j o) (each-always (λ j. refl) (from i (sets n mi)))) each-nil in
-          each-imply (λ c other. other-outputs o c other pruned) (other-rows n mi mo few some-codes some-inputs i o this-row)
+    -- nothing of the further rows stands below what the row pruned
+    clear : Each (NotBelow (stateOf (over b front r rejected found) .pruned)) rest
+    unfolding stateOf stateIn
+    clear =
+        let start = going (stateIn r rejected found) in
+        let same = each-map (λ (j : ℕ). place j o) (each-always (λ j. refl) (from i (sets n mi))) in
+        let pruned = run-outputs (b .verdict) (capacityOf rejected found (b .budget)) o start same each-nil in
+        each-imply
+        (λ c other. other-outputs o c other pruned)
+        (other-rows n mi mo (ranges .few) (ranges .some-codes) (ranges .some-inputs) i o this-row)
 
-      module _ (r′ : Run) (rejected′ found′ : List ℕ) (left : Leaves came rejected found r′ rejected′ found′) where
-        -- the row stopped the run
-        pub outputs-stop : (r′ .end ≡ 0 → ⊥) → Leaves (whole verdict budget all first rejected₀ found₀) rejected₀ found₀ r′ rejected′ found′
-        outputs-stop = reached-stop verdict budget all first rejected₀ found₀ front rest r rejected found (rw split at (at .reached)) left
+    module _ {r′ : Run} {rejected′ found′ : List ℕ} (left : Leaves (over b front r rejected found) rejected found r′ rejected′ found′) where
+      reached-here : Reached b (front ++ rest) r rejected found
+      reached-here = rw split at (at .reached)
 
-        -- the run goes on
-        pub outputs-on : r′ .end ≡ 0 → length rejected′ ≡ length rejected → length found′ ≡ length found
-            → OutputsLeft 1 next r′ rejected′ found′
-        outputs-on on kept kept′ =
-            let reached : Reached verdict budget all first rejected₀ found₀ (front ++ rest) r rejected found = rw split at (at .reached) in
-            record {
-              inputs = first-kind n mi few some-codes some-inputs;
-              outputs = after-kind n mo few o this-row;
-              reached = reached-on verdict budget all first rejected₀ found₀ front rest r rejected found reached left on kept kept′ clear;
-              countable = omega (
-                arith,
-                visits-left verdict budget all first rejected₀ found₀ front rest r rejected found reached left,
-                at .countable,
-                ap length split,
-              );
-            }
+      -- the row stopped the run
+      pub outputs-stop : (r′ .end ≡ 0 → ⊥) → Done b r′ rejected′ found′
+      outputs-stop = reached-stop front rest reached-here left
+
+      -- the run goes on
+      pub outputs-on : r′ .end ≡ 0 → length rejected′ ≡ length rejected → length found′ ≡ length found
+          → OutputsLeft b n mi mo 1 next r′ rejected′ found′
+      outputs-on on kept kept′ =
+          record {
+            inputs = first-kind n mi (ranges .few) (ranges .some-codes) (ranges .some-inputs);
+            outputs = after-kind n mo (ranges .few) o this-row;
+            reached = reached-on front rest reached-here left on kept kept′ clear;
+            countable = omega (arith, visits-left front rest reached-here left, at .countable, ap length split);
+          }

@@ -67,7 +67,7 @@ mark-overfed Underfed = refl
 mark-overfed Overfed = refl
 mark-overfed Both = refl
 
-module _ (run : Run) (rejected found : List ℕ) (c : Place) (budget : ℕ) (stands : Stands run rejected found) (unruled : rulingOf (stateIn run rejected found .rejected) c ≡ Unruled) where
+module _ (c : Place) (budget : ℕ) {run : Run} {rejected found : List ℕ} (stands : Stands run rejected found) (unruled : rulingOf (stateIn run rejected found .rejected) c ≡ Unruled) where
   -- the state before the verdict, and the progress after it
   abbrev state : State
   state = stateIn run rejected found

@@ -21,7 +21,7 @@ use Rattle.candidate_search.specs.Discovery.{summary, capacityOf}
 use Rattle.discovery.specs.Standing.{stateIn, Stands, Leaves, prunes}
 use Rattle.discovery.proofs.laws.Recording.{saysOverfed, saysRuled, ruling-says}
 
-module _ (verdict : Place → Verdict) (budget : ℕ) (run : Run) (rejected found : List ℕ) (c : Place) (stands : Stands run rejected found) where
+module _ (verdict : Place → Verdict) (budget : ℕ) (c : Place) {run : Run} {rejected found : List ℕ} (stands : Stands run rejected found) where
   abbrev state : State
   state = stateIn run rejected found
 

@@ -13,7 +13,7 @@ returns c budget =
     let k = c .before .before in
     let a = s .args in
     rw (k .before .word-of .ensures, unmarked (a .verdict) (sym (k .mark-of .ensures) ∙ c .before .if1 .taken))
-    (found-stored (a .run) (a .rejected .now) (a .found .now) (a .candidate) budget (s .pre .0) (s .pre .1) (c .if2 .taken))
+    (found-stored (a .candidate) budget (s .pre .0) (s .pre .1) (c .if2 .taken))
 
 returns-2 : tie.Need-returns-2
 returns-2 c budget =
@@ -21,7 +21,7 @@ returns-2 c budget =
     let k = c .before .before in
     let a = s .args in
     rw (unmarked (a .verdict) (sym (k .mark-of .ensures) ∙ c .before .if1 .taken))
-    (list-full (a .run) (a .rejected .now) (a .found .now) (a .candidate) budget (s .pre .0) (s .pre .1) (c .if2 .left))
+    (list-full (a .candidate) budget (s .pre .0) (s .pre .1) (c .if2 .left))
 
 returns-3 : tie.Need-returns-3
 returns-3 c budget =
@@ -30,9 +30,6 @@ returns-3 c budget =
     let a = s .args in
     rw (k .before .word-of .ensures, k .mark-of .ensures)
     (word-stored
-    (a .run)
-    (a .rejected .now)
-    (a .found .now)
     (a .candidate)
     budget
     (s .pre .0)
@@ -49,9 +46,6 @@ returns-4 c budget =
     let a = s .args in
     let dropped =
     word-dropped
-    (a .run)
-    (a .rejected .now)
-    (a .found .now)
     (a .candidate)
     budget
     (s .pre .0)

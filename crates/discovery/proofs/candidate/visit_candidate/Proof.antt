@@ -28,9 +28,6 @@ returns c =
     budget-spent
     _
     (a .budget)
-    (a .run)
-    (a .rejected .now)
-    (a .found .now)
     (a .candidate)
     (s .pre .2)
     (sym (ruled k) ∙ c .before .before .enum-told3 .given .1)
@@ -51,34 +48,14 @@ returns-2 c =
     let k = c .before .before .before in
     let s = k .before .before .before .before .before .before in
     let a = s .args in
-    skipped
-    _
-    (a .budget)
-    (a .run)
-    (a .rejected .now)
-    (a .found .now)
-    (a .candidate)
-    (s .pre .2)
-    AsOverfed
-    (sym (ruled k) ∙ c .before .enum-told .given .1)
-    refl
+    skipped _ (a .budget) (a .candidate) (s .pre .2) AsOverfed (sym (ruled k) ∙ c .before .enum-told .given .1) refl
 
 returns-3 : tie.Need-returns-3
 returns-3 c =
     let k = c .before .before .before in
     let s = k .before .before .before .before .before .before in
     let a = s .args in
-    skipped
-    _
-    (a .budget)
-    (a .run)
-    (a .rejected .now)
-    (a .found .now)
-    (a .candidate)
-    (s .pre .2)
-    AsUnderfed
-    (sym (ruled k) ∙ c .before .enum-told2 .given .1)
-    refl
+    skipped _ (a .budget) (a .candidate) (s .pre .2) AsUnderfed (sym (ruled k) ∙ c .before .enum-told2 .given .1) refl
 
 returns-4 : tie.Need-returns-4
 returns-4 c =
@@ -92,9 +69,6 @@ returns-4 c =
       replays-it
           (verdict (a .threshold) (framesOf (a .text .now)))
           (a .budget)
-          (a .run)
-          (a .rejected .now)
-          (a .found .now)
           (a .candidate)
           (s .pre .2)
           (sym (ruled k) ∙ e .enum-told3 .given .1)

@@ -10,22 +10,24 @@ use Rattle.places.specs.Succession.{from, candidatesFrom}
 use Rattle.log_format.specs.Lines.{framesOf}
 use Rattle.balances.specs.Judgement.{verdict}
 use Rattle.discovery.proofs.laws.Onward.{reached-start}
-use Rattle.discovery.proofs.laws.OutputsLeft.{placesFrom, OutputsLeft, outputs-done, this-row, row-countable, fewer-rows, outputs-stop, outputs-on}
+use Rattle.discovery.proofs.laws.OutputsLeft.{placesFrom, OutputsLeft, Ranges, outputs-done, this-row, row-countable, fewer-rows, outputs-stop, outputs-on}
 use Rattle.discovery.proofs.search.search_from.Statement.{statement}
 use Rattle.discovery.proofs.search.search_from.Tie as tie
 
 abbrev Inv-loop : tie.InvT-loop
 Inv-loop settings text budget rejected₀ found₀ run₀ inputs₀ outputs₀ rejected found run inputs outputs =
     OutputsLeft
-    (verdict (settings .threshold) (framesOf text))
-    budget
+    (record {
+      verdict = verdict (settings .threshold) (framesOf text);
+      budget = budget;
+      candidates = placesFrom (settings .activities) (settings .inputs) (settings .outputs) inputs₀ outputs₀;
+      run = run₀;
+      rejected = rejected₀;
+      found = found₀;
+    })
     (settings .activities)
     (settings .inputs)
     (settings .outputs)
-    (placesFrom (settings .activities) (settings .inputs) (settings .outputs) inputs₀ outputs₀)
-    run₀
-    rejected₀
-    found₀
     inputs
     outputs
     run
@@ -40,26 +42,22 @@ loop-holds : tie.Need-loop-holds Inv-loop μ-loop
 unfolding candidatesFrom
 loop-holds c =
     let pre = c .before .before .before .before .pre in
-    record { inputs = pre .2; outputs = inr (pre .3); reached = reached-start _ _ _ _ _ _ (pre .1); countable = pre .4 }
+    record { inputs = pre .2; outputs = inr (pre .3); reached = reached-start _ (pre .1); countable = pre .4 }
+
+-- what is known of the settings
+ranges : (c : tie.At-loop Inv-loop μ-loop) → let s = c .before .before .before .before .before .args .settings in Ranges (s .activities) (s .inputs)
+ranges c =
+    let known = c .before .before .before .before .before .pre .0 in
+    record { few = known .few-activities; some-codes = known .some-activities; some-inputs = known .some-inputs }
 
 search-inputs-requires : tie.Need-search-inputs-requires Inv-loop μ-loop
 search-inputs-requires c κs =
     let l = c .before .before .before in
-    let known = l .before .before .before .before .before .pre .0 in (
-      known,
-      l .loop .inv .reached .stands,
-      l .loop .inv .inputs,
-      row-countable _ _ _ _ _ _ _ _ _
-          (known .few-activities)
-          (known .some-activities)
-          (known .some-inputs)
-          _
-          _
-          _
-          _
-          _
-          (l .loop .inv)
-          (c .before .before .loop-test .taken),
+    let inv = l .loop .inv in (
+      l .before .before .before .before .before .pre .0,
+      inv .reached .stands,
+      inv .inputs,
+      row-countable (ranges l) inv (c .before .before .loop-test .taken),
     )
 
 returns : tie.Need-returns Inv-loop μ-loop
@@ -67,93 +65,39 @@ unfolding candidatesFrom
 returns c =
     let v = c .before .before .before .before .before .before in
     let l = v .before .before .before .before in
-    let known = l .before .before .before .before .before .pre .0 in
-    outputs-stop _ _ _ _ _ _ _ _ _
-    (known .few-activities)
-    (known .some-activities)
-    (known .some-inputs)
-    (l .loop .inputs)
-    (l .loop .outputs)
-    (l .loop .run)
-    (l .loop .rejected)
-    (l .loop .found)
-    (l .loop .inv)
-    (v .before .before .before .loop-test .taken)
-    _
-    _
-    _
-    (v .search-inputs .ensures)
-    (λ e. c .if1 .taken (omega (arith, e)))
+    outputs-stop (ranges l) (l .loop .inv) (v .before .before .before .loop-test .taken) (v .search-inputs .ensures) λ e.
+    c .if1 .taken (omega (arith, e))
 
 set-after-requires : tie.Need-set-after-requires Inv-loop μ-loop
 set-after-requires c κs =
     let v = c .before .before .before .before .before .before in
     let l = v .before .before .before .before in
-    let known = l .before .before .before .before .before .pre .0 in (
-      known .few-activities,
-      this-row _ _ _ _ _ _ _ _ _
-          (known .few-activities)
-          (known .some-activities)
-          (known .some-inputs)
-          _
-          _
-          _
-          _
-          _
-          (l .loop .inv)
-          (v .before .before .before .loop-test .taken),
-    )
+    (ranges l .few, this-row (ranges l) (l .loop .inv) (v .before .before .before .loop-test .taken))
 
 loop-less : tie.Need-loop-less Inv-loop μ-loop
 loop-less c =
     let v = c .before .before .before .before .before .before .before in
     let l = v .before .before .before .before in
-    let known = l .before .before .before .before .before .pre .0 in
-    rw (c .set-after .ensures) (
-    fewer-rows _ _ _ _ _ _ _ _ _
-    (known .few-activities)
-    (known .some-activities)
-    (known .some-inputs)
-    _
-    _
-    _
-    _
-    _
-    (l .loop .inv)
-    (v .before .before .before .loop-test .taken)
-    )
+    rw (c .set-after .ensures) (fewer-rows (ranges l) (l .loop .inv) (v .before .before .before .loop-test .taken))
 
 loop-again : tie.Need-loop-again Inv-loop μ-loop
 loop-again c =
     let v = c .before .before .before .before .before .before .before in
     let l = v .before .before .before .before in
-    let known = l .before .before .before .before .before .pre .0 in
     rw (c .set-after .ensures) (
-    outputs-on _ _ _ _ _ _ _ _ _
-    (known .few-activities)
-    (known .some-activities)
-    (known .some-inputs)
-    (l .loop .inputs)
-    (l .loop .outputs)
-    (l .loop .run)
-    (l .loop .rejected)
-    (l .loop .found)
+    outputs-on
+    (ranges l)
     (l .loop .inv)
     (v .before .before .before .loop-test .taken)
-    _
-    _
-    _
     (v .search-inputs .ensures)
-    (c .before .if1 .left)
+    (omega (arith, c .before .if1 .left))
     (v .search-inputs .kept .1 .1 .1 .0)
     (v .search-inputs .kept .1 .1 .1 .1 .0)
     )
 
 returns-2 : tie.Need-returns-2 Inv-loop μ-loop
 unfolding candidatesFrom
-returns-2 c =
-    let l = c .before .loop in
-    outputs-done _ _ _ _ _ _ _ _ _ (l .inputs) (l .run) (l .rejected) (l .found) (rw (c .loop-test .left) at (l .inv))
+returns-2 c = outputs-done (c .before .loop .inv) (c .loop-test .left)
 
 pub search-from-spec : {M : Type 1} → statement M
 search-from-spec =
