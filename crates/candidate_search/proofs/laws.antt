@@ -8,5 +8,6 @@ pub mod RunCounts
 pub mod Covering
 pub mod SecondPhase
 pub mod TwoPhases
+pub mod AnswerLaws
 pub mod CallChecks
 pub mod AnyTwoRuns
