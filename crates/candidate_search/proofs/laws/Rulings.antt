@@ -2,7 +2,7 @@
 -- overfed and is at least as light as the candidate, and underfed exactly if the place was underfed and the candidate is at least as light. A
 -- candidate ruled overfed passes that on to every heavier one, its descendants among them.
 -- Assumes nothing.
-use Prim.Native.Nat.{ℕ, _<_, _^_}
+use Prim.Native.Nat.{ℕ}
 use native.Mathlib.Omega.{arith}
 use mathlib.Core.Path.{_≡_, refl, ap, _∙_}
 use mathlib.Core.Bool.{Bool, true, false, _&&_, _||_, and-eq-true-iff, and-true, or-false}
@@ -32,13 +32,6 @@ isOverfed Underfed = false
 isOverfed Overfed = true
 isOverfed Both = true
 
-mark-small : (v : Verdict) → mark v < 4
-unfolding mark
-mark-small Fitting = omega arith
-mark-small Underfed = omega arith
-mark-small Overfed = omega arith
-mark-small Both = omega arith
-
 mark-underfed : (v : Verdict) → (eqb (mark v) 1 || eqb (mark v) 3) ≡ isUnderfed v
 unfolding mark
 mark-underfed Fitting = refl
@@ -55,10 +48,6 @@ mark-overfed Both = refl
 
 -- the word of a rejected place
 module _ (p : Place) (v : Verdict) (storable : Storable p) where
-  pub rejected-small : rejectedWord p v < 2 ^ 64
-  unfolding rejectedWord
-  rejected-small = omega (arith, word-small p storable, mark-small v)
-
   pub mark-back : markIn (rejectedWord p v) ≡ mark v
   unfolding rejectedWord markIn
   mark-back = omega (arith, word-small p storable)
@@ -77,10 +66,7 @@ module _ (p : Place) (v : Verdict) (storable : Storable p) where
     unfolding rulesOverfed
     rules-overfed = rw (mark-back, place-back, mark-overfed v)
 
-  -- it rules its own place as that was judged
-  pub own-underfed : rulesUnderfed p (rejectedWord p v) ≡ isUnderfed v
-  own-underfed = rules-underfed p ∙ rw (lighter-refl p) (and-true (isUnderfed v))
-
+  -- it rules its own place overfed as that was judged
   pub own-overfed : rulesOverfed p (rejectedWord p v) ≡ isOverfed v
   own-overfed = rules-overfed p ∙ rw (lighter-refl p) (and-true (isOverfed v))
 

@@ -53,13 +53,13 @@ pruned-onward c s = go (ruledOverfed (s .rejected) c) refl
 module _ (verdict : Place → Verdict) (room : Capacity) (c : Place) (s : State) where
   replayed-stepped : {p : Progress} → ReplayOutcome verdict room c s p → Stepped c s p
   unfolding stateOf visited replayedOnce withFound withRejected
-  replayed-stepped (spent h) = record { grown = record { rejected = le-refl _; found = le-refl _ }; visits = omega arith; end-given = omega arith; pruned = inl refl }
-  replayed-stepped (list-full h f l) = record { grown = record { rejected = le-refl _; found = le-refl _ }; visits = omega arith; end-given = omega arith; pruned = inl refl }
-  replayed-stepped (accepted h f l) = record { grown = record { rejected = le-refl _; found = omega (arith, length-append (s .found) (word c ∷ [])) }; visits = omega arith; end-given = tt; pruned = inl refl }
-  replayed-stepped (dropped h f l) = record { grown = record { rejected = le-refl _; found = le-refl _ }; visits = omega arith; end-given = tt; pruned = inl refl }
+  replayed-stepped (spent h) = record { grown = omega arith; visits = omega arith; end-given = omega arith; pruned = inl refl }
+  replayed-stepped (list-full h f l) = record { grown = omega arith; visits = omega arith; end-given = omega arith; pruned = inl refl }
+  replayed-stepped (accepted h f l) = record { grown = omega (arith, length-append (s .found) (word c ∷ [])); visits = omega arith; end-given = tt; pruned = inl refl }
+  replayed-stepped (dropped h f l) = record { grown = omega arith; visits = omega arith; end-given = tt; pruned = inl refl }
   replayed-stepped (cached h f l) =
       record {
-        grown = record { rejected = omega (arith, length-append (s .rejected) (rejectedWord c (verdict c) ∷ [])); found = le-refl _ };
+        grown = omega (arith, length-append (s .rejected) (rejectedWord c (verdict c) ∷ []));
         visits = omega arith;
         end-given = tt;
         pruned = pruned-onward c (withRejected (rejectedWord c (verdict c)) (replayedOnce (visited s)));
@@ -67,8 +67,8 @@ module _ (verdict : Place → Verdict) (room : Capacity) (c : Place) (s : State)
 
   outcome-stepped : {p : Progress} → Outcome verdict room c s p → Stepped c s p
   unfolding stateOf visited
-  outcome-stepped (passed e) = record { grown = record { rejected = le-refl _; found = le-refl _ }; visits = omega arith; end-given = tt; pruned = inl refl }
-  outcome-stepped (known m r) = record { grown = record { rejected = le-refl _; found = le-refl _ }; visits = omega arith; end-given = tt; pruned = pruned-onward c (visited s) }
+  outcome-stepped (passed e) = record { grown = omega arith; visits = omega arith; end-given = tt; pruned = inl refl }
+  outcome-stepped (known m r) = record { grown = omega arith; visits = omega arith; end-given = tt; pruned = pruned-onward c (visited s) }
   outcome-stepped (replayed m u t) = replayed-stepped t
 
   pub step-made : Stepped c s (step verdict room (going s) c)

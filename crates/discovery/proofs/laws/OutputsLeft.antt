@@ -18,7 +18,7 @@ use Rattle.places.specs.declared.Place.{Place}
 use Rattle.places.specs.Places.{place}
 use Rattle.places.specs.Candidates.{candidateSet, sets, descends}
 use Rattle.places.specs.Succession.{from, setAfter, withOutputs, rows}
-use Rattle.places.proofs.laws.From.{from-ends}
+use Rattle.places.proofs.laws.From.{Apart, from-ends}
 use Rattle.places.proofs.laws.SetOrder.{sets-distinct}
 use Rattle.places.proofs.laws.Succession.{from-nothing, from-first, first-kind, after-from, after-kind}
 use Rattle.candidate_search.specs.declared.Run.{Run}
@@ -47,24 +47,35 @@ module _ (n mi mo : ℕ) where
   placesFrom i o = rows (from i (sets n mi)) (sets n mi) (from o (sets n mo))
 
   module _ (few : n ≤ mostActivities) (some-codes : 1 ≤ n) (some-inputs : 1 ≤ mi) (i o : ℕ) (this : candidateSet n mo o ≡ true) where
+    abbrev after : List ℕ
+    after = from (setAfter o (sets n mo)) (sets n mo)
+
+    further-rows : placesFrom 1 (setAfter o (sets n mo)) ≡ flatMap (withOutputs (sets n mi)) after
+    further-rows =
+        ap (λ (l : List ℕ). rows l (sets n mi) after) (from-first n mi some-codes some-inputs) ∙ rows-whole (sets n mi) after
+
     -- the row at hand, and the rows after it from their first input set on
     pub first-row : placesFrom i o ≡ withOutputs (from i (sets n mi)) o ++ placesFrom 1 (setAfter o (sets n mo))
     unfolding rows
     first-row =
         ap (rows (from i (sets n mi)) (sets n mi)) (after-from n mo few o this)
-        ∙ ap
-        (_++_ (withOutputs (from i (sets n mi)) o))
-        (sym (ap (λ (l : List ℕ). rows l (sets n mi) (from (setAfter o (sets n mo)) (sets n mo))) (from-first n mi some-codes some-inputs) ∙ rows-whole (sets n mi) (from (setAfter o (sets n mo)) (sets n mo))))
+        ∙ ap (_++_ (withOutputs (from i (sets n mi)) o)) (sym further-rows)
 
-    -- the rows after it have other outputs
-    other-rows : Each (λ (c : Place). o ≡ c .outputs → ⊥) (placesFrom 1 (setAfter o (sets n mo)))
-    other-rows =
-        let after = from (setAfter o (sets n mo)) (sets n mo) in
+    -- the output sets after it are other ones
+    other-sets : Each (Apart o) after
+    other-sets =
         let (before, split) = from-ends o (sets n mo) in
-        let distinct : Ordered (λ (s t : ℕ). s ≡ t → ⊥) (before ++ from o (sets n mo)) = subst (Ordered (λ (s t : ℕ). s ≡ t → ⊥)) split (sets-distinct n mo few) in
-        let others : Each (λ (t : ℕ). o ≡ t → ⊥) after = ordered-head (subst (Ordered (λ (s t : ℕ). s ≡ t → ⊥)) (after-from n mo few o this) (ordered-back before distinct)) in
-        rw (from-first n mi some-codes some-inputs, rows-whole (sets n mi) after)
-        (each-flatMap (withOutputs (sets n mi)) (each-imply (λ t other. each-map (λ (j : ℕ). place j t) (each-always (λ j. other) (sets n mi))) others))
+        let here : Ordered Apart (from o (sets n mo)) = ordered-back before (subst (Ordered Apart) split (sets-distinct n mo few)) in
+        ordered-head (subst (Ordered Apart) (after-from n mo few o this) here)
+
+    -- so the rows after it have other outputs
+    other-rows : Each (λ (c : Place). Apart o (c .outputs)) (placesFrom 1 (setAfter o (sets n mo)))
+    other-rows =
+        rw further-rows (
+        each-flatMap (withOutputs (sets n mi)) (
+        each-imply (λ t other. each-map (λ (j : ℕ). place j t) (each-always (λ j. other) (sets n mi))) other-sets
+        )
+        )
 
 -- the loop at the input set i and the output set o, 0 after the last
 pub record OutputsLeft (b : Beginning) (n mi mo i o : ℕ) (r : Run) (rejected found : List ℕ) : Type 0 where
