@@ -5,8 +5,8 @@ ghost use lib.Dec.{eqb};
 ghost use Rattle.candidate_search.specs.Rejected.{markIn, placeIn, rulesUnderfed, rulesOverfed};
 ghost use Rattle.discovery.specs.Rulings.{rulingOf};
 use crate::Ruling;
+use candidate_order::is_lighter;
 use places::Place;
-use places::is_lighter;
 
 // The place of a word.
 fn place_in(word: u64) -> Place

@@ -14,11 +14,11 @@ ghost use Rattle.candidate_search.specs.Discovery.{capacityOf};
 ghost use Rattle.discovery.specs.Standing.{Searchable, stateIn, Stands, Leaves};
 use crate::Position;
 use crate::candidate::visit_candidate;
+use candidate_order::set::set_after;
+use candidate_order::set::set_past;
 use candidate_search::Run;
 use limits::Settings;
 use places::Place;
-use places::set::set_after;
-use places::set::set_past;
 
 // The input set whose turn comes after a given one: the next one, or where its descendants are pruned the next one past them.
 fn next_inputs(settings: Settings, inputs: u16, prune: bool) -> u16

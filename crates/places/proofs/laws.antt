@@ -1,15 +1,4 @@
-pub mod BitOperations
 pub mod Bounds
-pub mod Doubling
-pub mod Extending
-pub mod From
-pub mod Highest
 pub mod Lighter
-pub mod NextSet
-pub mod Position
-pub mod SetList
-pub mod SetOrder
-pub mod CandidateOrder
-pub mod Succession
-pub mod Descendants
+pub mod StrictOrder
 pub mod Words

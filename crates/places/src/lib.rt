@@ -1,9 +1,6 @@
 // Sets of activities and places: document 01, "Candidates and their order" and the first sentences of "Tokens in one trace".
 ghost use mathlib.Core.Path.{_≡_};
-ghost use Rattle.places.specs.Places.{below, placeUnder, word, lighter};
-use crate::set::is_within;
-
-pub mod set; // set.rt: sets of activities
+ghost use Rattle.places.specs.Places.{below, placeUnder, word};
 
 // A place (I, O): its input and its output activities, as sets in which code a stands for 2 to the power a.
 pub struct Place {
@@ -36,11 +33,4 @@ pub fn word_of(place: Place) -> u32
     ensures { λ r. ⌜ r ≡ word place ⌝ }
 {
     place.inputs as u32 + 65536 * place.outputs as u32
-}
-
-// Whether a place is at least as light as another (Definition 10).
-pub fn is_lighter(place: Place, than: Place) -> bool
-    ensures { λ r. ⌜ r ≡ lighter place than ⌝ }
-{
-    is_within(place.inputs, than.inputs) && is_within(than.outputs, place.outputs)
 }

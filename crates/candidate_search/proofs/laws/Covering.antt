@@ -12,7 +12,7 @@ use Rattle.foundation.proofs.laws.Any.{any-imply}
 use Rattle.foundation.proofs.laws.Booleans.{by-test, or-true-either}
 use Rattle.places.specs.declared.Place.{Place}
 use Rattle.places.specs.Candidates.{descends}
-use Rattle.places.proofs.laws.Descendants.{descends-trans}
+use Rattle.candidate_order.proofs.laws.Descendants.{descends-trans}
 use Rattle.candidate_search.specs.Rejected.{rulesUnderfed, ruledOverfed, ruled}
 use Rattle.candidate_search.proofs.laws.Rulings.{underfed-kept, overfed-kept}
 use Rattle.candidate_search.proofs.laws.Outcomes.{prunedAfter}

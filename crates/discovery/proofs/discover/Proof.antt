@@ -9,7 +9,7 @@ use borrow.Author.Needs.{needs}
 use borrow.Author.Tests.{not-true, not-false}
 use Rattle.limits.specs.Settings.{settingsInRange}
 use Rattle.limits.proofs.laws.SettingsRanges.{in-range}
-use Rattle.places.proofs.laws.Succession.{first-kind}
+use Rattle.candidate_order.proofs.laws.Succession.{first-kind}
 use Rattle.candidate_search.specs.Discovery.{runRefusal}
 use Rattle.discovery.proofs.laws.CallAnswers.{searchable, all-countable, refused-answers, run-answers}
 use Rattle.candidate_search.proofs.laws.CallChecks.{not-refused, settings-refused, log-refused, log-accepted}

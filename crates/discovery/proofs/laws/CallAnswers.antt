@@ -14,8 +14,8 @@ use Rattle.limits.proofs.laws.SettingsRanges.{InRange}
 use Rattle.places.specs.Places.{place}
 use Rattle.places.specs.Candidates.{candidates, sets}
 use Rattle.places.specs.Succession.{candidatesFrom}
-use Rattle.places.proofs.laws.CandidateOrder.{fewer-candidates}
-use Rattle.places.proofs.laws.Succession.{from-first}
+use Rattle.candidate_order.proofs.laws.CandidateOrder.{fewer-candidates}
+use Rattle.candidate_order.proofs.laws.Succession.{from-first}
 use Rattle.log_format.specs.Lines.{framesOf}
 use Rattle.log_format.proofs.laws.WiderBound.{log-wider}
 use Rattle.balances.specs.Judgement.{verdict}

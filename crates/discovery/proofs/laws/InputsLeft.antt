@@ -17,7 +17,7 @@ use Rattle.places.specs.declared.Place.{Place}
 use Rattle.places.specs.Places.{place}
 use Rattle.places.specs.Candidates.{candidateSet, sets, extends, descends}
 use Rattle.places.specs.Succession.{from, setAfter, setPast, withOutputs}
-use Rattle.places.proofs.laws.Succession.{from-nothing, after-from, past-from, after-kind, past-kind}
+use Rattle.candidate_order.proofs.laws.Succession.{from-nothing, after-from, past-from, after-kind, past-kind}
 use Rattle.balances.specs.declared.Verdict.{Verdict}
 use Rattle.candidate_search.specs.declared.Run.{Run}
 use Rattle.candidate_search.specs.Search.{Progress, going, isPruned, visit, step, stateOf}

@@ -18,9 +18,9 @@ use Rattle.places.specs.declared.Place.{Place}
 use Rattle.places.specs.Places.{place}
 use Rattle.places.specs.Candidates.{candidateSet, sets, descends}
 use Rattle.places.specs.Succession.{from, setAfter, withOutputs, rows}
-use Rattle.places.proofs.laws.From.{Apart, from-ends}
-use Rattle.places.proofs.laws.SetOrder.{sets-distinct}
-use Rattle.places.proofs.laws.Succession.{from-nothing, from-first, first-kind, after-from, after-kind}
+use Rattle.candidate_order.proofs.laws.From.{Apart, from-ends}
+use Rattle.candidate_order.proofs.laws.SetOrder.{sets-distinct}
+use Rattle.candidate_order.proofs.laws.Succession.{from-nothing, from-first, first-kind, after-from, after-kind}
 use Rattle.candidate_search.specs.declared.Run.{Run}
 use Rattle.candidate_search.specs.Search.{going, stateOf}
 use Rattle.candidate_search.specs.Discovery.{capacityOf}

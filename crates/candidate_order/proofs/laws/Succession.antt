@@ -14,13 +14,13 @@ use Rattle.foundation.proofs.laws.Lists.{keep-append}
 use Rattle.foundation.proofs.laws.Each.{each-imply, each-front, keep-every, keep-none}
 use Rattle.foundation.proofs.laws.Members.{each-member}
 use Rattle.limits.specs.Settings.{mostActivities}
 use Rattle.places.specs.Candidates.{candidateSet, sets, extends}
 use Rattle.places.specs.Succession.{from, firstSet, setAfter, setPast}
-use Rattle.places.proofs.laws.From.{from-ends, from-in-second, from-end}
-use Rattle.places.proofs.laws.NextSet.{pastBy, afterBy}
-use Rattle.places.proofs.laws.Position.{Position, position}
-use Rattle.places.proofs.laws.SetList.{Listed, sets-listed, set-listed}
-use Rattle.places.proofs.laws.SetOrder.{sets-distinct}
+use Rattle.candidate_order.proofs.laws.From.{from-ends, from-in-second, from-end}
+use Rattle.candidate_order.proofs.laws.NextSet.{pastBy, afterBy}
+use Rattle.candidate_order.proofs.laws.Position.{Position, position}
+use Rattle.candidate_order.proofs.laws.SetList.{Listed, sets-listed, set-listed}
+use Rattle.candidate_order.proofs.laws.SetOrder.{sets-distinct}
 
 -- from no set on there is nothing, and from the set of code 0 alone on the whole list
 pub from-nothing : (n m : ℕ) → from 0 (sets n m) ≡ []

@@ -16,9 +16,9 @@ use borrow.Author.Tests.{eqb-true, eqb-false, eq-eqb, ne-eqb}
 use Rattle.foundation.proofs.laws.Booleans.{by-test, impossible}
 use Rattle.foundation.proofs.laws.Each.{all-kept, each-upTo}
 use Rattle.limits.specs.Settings.{mostActivities}
 use Rattle.places.specs.Sets.{has, member, codes, size, within}
-use Rattle.places.proofs.laws.Doubling.{has-half, size-raised, size-raised-zero}
+use Rattle.candidate_order.proofs.laws.Doubling.{has-half, size-raised, size-raised-zero}
 use Rattle.places.proofs.laws.Lighter.{within-has}
 
 -- a code stands in the common bits where it stands in both sets
 has-and : (s t a : ℕ) → has (bitAnd s t) a ≡ min (has s a) (has t a)

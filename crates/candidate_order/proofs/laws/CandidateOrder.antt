@@ -19,13 +19,14 @@ use Rattle.foundation.proofs.laws.Members.{member-flatMap}
 use Rattle.foundation.proofs.laws.Ordered.{ordered-imply, ordered-distinct, ordered-pairs}
 use Rattle.limits.specs.declared.Settings.{Settings}
 use Rattle.limits.specs.Settings.{mostActivities}
 use Rattle.places.specs.declared.Place.{Place}
 use Rattle.places.specs.Sets.{size}
 use Rattle.places.specs.Places.{place, through, below, placeUnder}
 use Rattle.places.specs.Order.{PlaceBefore}
 use Rattle.places.specs.Candidates.{candidateSet, candidate, sets, candidates}
-use Rattle.places.proofs.laws.SetList.{Listed, sets-listed, set-listed, fewer-sets}
-use Rattle.places.proofs.laws.SetOrder.{place-irreflexive, sets-ascending}
+use Rattle.candidate_order.proofs.laws.SetList.{Listed, sets-listed, set-listed, fewer-sets}
+use Rattle.places.proofs.laws.StrictOrder.{place-irreflexive}
+use Rattle.candidate_order.proofs.laws.SetOrder.{sets-ascending}
 
 -- three tests of each of two things, taken in turn or thing by thing
 by-thing : (a b c d e f : Bool) → a && b && c && d && e && f ≡ (a && c && e && (b && d && f))

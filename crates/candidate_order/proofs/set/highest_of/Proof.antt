@@ -1,10 +1,10 @@
--- `places::set::highest_of` meets its contract: the zeros above a set's highest code, that code's bit and those below it are 16.
+-- `candidate_order::set::highest_of` meets its contract: the zeros above a set's highest code, that code's bit and those below it are 16.
 -- Assumes nothing.
 use native.Mathlib.Omega.{arith}
 use lib.Count.{leading-top}
-use Rattle.places.proofs.laws.Highest.{highest, highest-code}
-use Rattle.places.proofs.set.highest_of.Statement.{statement}
-use Rattle.places.proofs.set.highest_of.Tie as tie
+use Rattle.candidate_order.proofs.laws.Highest.{highest, highest-code}
+use Rattle.candidate_order.proofs.set.highest_of.Statement.{statement}
+use Rattle.candidate_order.proofs.set.highest_of.Tie as tie
 
 sub-result : tie.Need-sub-result
 sub-result c = let (h, count, has, above) = leading-top 16 (c .args .set) (c .pre) (c .fits .set .fits) in omega arith

@@ -1,4 +1,4 @@
--- `places::set::set_after` meets its contract: each return is what the law of the set after a given one says of its highest code and its size.
+-- `candidate_order::set::set_after` meets its contract: each return is what the law of the set after a given one says of its highest code and its size.
 -- Assumes nothing.
 use Prim.Native.Nat.{suc, _+_, _^_, _≤_}
 use native.Mathlib.Omega.{arith}
@@ -6,12 +6,12 @@ use native.Mathlib.Numerals.{add-one}
 use mathlib.Core.Path.{sym, ap, _∙_}
 use mathlib.Core.Logic.{_⊎_, inl, inr, ⊎-elim}
 use borrow.Author.Needs.{needs}
 use Rattle.places.specs.Sets.{size}
-use Rattle.places.proofs.laws.Highest.{bit-value, added-fits}
-use Rattle.places.proofs.laws.NextSet.{after-added, after-past}
-use Rattle.places.proofs.laws.Succession.{candidate-bounds, after-by, past-by}
-use Rattle.places.proofs.set.set_after.Statement.{statement}
-use Rattle.places.proofs.set.set_after.Tie as tie
+use Rattle.candidate_order.proofs.laws.Highest.{bit-value, added-fits}
+use Rattle.candidate_order.proofs.laws.NextSet.{after-added, after-past}
+use Rattle.candidate_order.proofs.laws.Succession.{candidate-bounds, after-by, past-by}
+use Rattle.candidate_order.proofs.set.set_after.Statement.{statement}
+use Rattle.candidate_order.proofs.set.set_after.Tie as tie
 
 highest-of-requires : tie.Need-highest-of-requires
 highest-of-requires c κs =

@@ -1,4 +1,4 @@
--- `places::set::set_past` meets its contract: each return is what the law of the set past a given one says of its highest code.
+-- `candidate_order::set::set_past` meets its contract: each return is what the law of the set past a given one says of its highest code.
 -- Assumes nothing.
 use Prim.Native.Nat.{suc}
 use native.Mathlib.Omega.{arith}
@@ -6,11 +6,11 @@ use native.Mathlib.Nat.{pow-suc}
 use mathlib.Core.Path.{sym, _∙_}
 use lib.Pow.{pow-mono}
 use borrow.Author.Needs.{needs}
-use Rattle.places.proofs.laws.Highest.{bit-value, added-fits}
-use Rattle.places.proofs.laws.NextSet.{past-moved, past-none, past-fallen}
-use Rattle.places.proofs.laws.Succession.{past-by}
-use Rattle.places.proofs.set.set_past.Statement.{statement}
-use Rattle.places.proofs.set.set_past.Tie as tie
+use Rattle.candidate_order.proofs.laws.Highest.{bit-value, added-fits}
+use Rattle.candidate_order.proofs.laws.NextSet.{past-moved, past-none, past-fallen}
+use Rattle.candidate_order.proofs.laws.Succession.{past-by}
+use Rattle.candidate_order.proofs.set.set_past.Statement.{statement}
+use Rattle.candidate_order.proofs.set.set_past.Tie as tie
 
 add-result : tie.Need-add-result
 add-result c =

@@ -1,63 +1,22 @@
--- The stated order of sets, and that of places, is strict: nothing comes before itself, and the order is transitive. The list of sets is in this order,
--- and so holds each set once: with each code one more the order stays, a set of code 0 alone comes before those that have more, and all of them come
--- before those without code 0.
+-- The list of sets is in the stated order, and so holds each set once: with each code one more the order stays, a set of code 0 alone comes before
+-- those that have more, and all of them come before those without code 0.
 -- Assumes nothing.
 use Prim.Native.Nat.{ℕ, zero, suc, _<_, _≤_, suc-le-suc}
-use native.Mathlib.Nat.{lt-trans, zero-lt-suc}
+use native.Mathlib.Nat.{zero-lt-suc}
 use native.Mathlib.Omega.{arith}
-use mathlib.Core.Path.{_≡_, refl, _∙_}
-use mathlib.Core.Logic.{inl, inr}
-use mathlib.Core.List.{List, [], _∷_, map, nil≢cons, head-eq-of-cons-eq, tail-eq-of-cons-eq}
+use mathlib.Core.Path.{_≡_}
+use mathlib.Core.List.{List, [], _∷_, map}
 use lib.ListN.{length}
 use Rattle.foundation.specs.Lists.{Each, Ordered, ordered-nil, ordered-cons}
 use Rattle.foundation.proofs.laws.Each.{each-imply, each-append, each-map}
 use Rattle.foundation.proofs.laws.Ordered.{ordered-among, ordered-distinct, ordered-append, ordered-map}
 use Rattle.limits.specs.Settings.{mostActivities}
-use Rattle.places.specs.declared.Place.{Place}
 use Rattle.places.specs.Sets.{codes, size}
-use Rattle.places.specs.Order.{CodesBefore, ends, lower, same, SetBefore, PlaceBefore}
+use Rattle.places.specs.Order.{CodesBefore, ends, lower, same, SetBefore}
 use Rattle.places.specs.Candidates.{raised, raisedWithZero, sets}
-use Rattle.places.proofs.laws.Doubling.{codes-raised, codes-raised-zero}
-use Rattle.places.proofs.laws.SetList.{below-last, size-positive, Listed, sets-listed}
-
--- where two lists of codes are equal, neither ends first and no code is lower
-apart : {s t : List ℕ} → CodesBefore s t → s ≡ t → ⊥
-apart ends e = nil≢cons e
-apart (lower h) e = omega (arith, head-eq-of-cons-eq e)
-apart (same h) e = apart h (tail-eq-of-cons-eq e)
-
--- no set comes before itself
-pub set-irreflexive : (s : ℕ) → SetBefore s s → ⊥
-unfolding SetBefore
-set-irreflexive s h = apart h refl
-
--- what comes before a list that comes before a third comes before the third
-codes-transitive : {s t u : List ℕ} → CodesBefore s t → CodesBefore t u → CodesBefore s u
-codes-transitive ends (lower k) = ends
-codes-transitive ends (same k) = ends
-codes-transitive (lower h) (lower k) = lower (lt-trans h k)
-codes-transitive (lower h) (same k) = lower h
-codes-transitive (same h) (lower k) = lower k
-codes-transitive (same h) (same k) = same (codes-transitive h k)
-
--- and so of sets
-pub set-transitive : (s t u : ℕ) → SetBefore s t → SetBefore t u → SetBefore s u
-unfolding SetBefore
-set-transitive s t u h k = codes-transitive h k
-
--- no place comes before itself
-pub place-irreflexive : (p : Place) → PlaceBefore p p → ⊥
-unfolding PlaceBefore
-place-irreflexive p (inl h) = set-irreflexive (p .outputs) h
-place-irreflexive p (inr h) = set-irreflexive (p .inputs) (h .1)
-
--- the order of places is transitive, as that of their outputs is, and of their inputs
-pub place-transitive : (p q r : Place) → PlaceBefore p q → PlaceBefore q r → PlaceBefore p r
-unfolding PlaceBefore
-place-transitive p q r (inl h) (inl k) = inl (set-transitive (p .outputs) (q .outputs) (r .outputs) h k)
-place-transitive p q r (inl h) (inr k) = inl (rw (k .0) at h)
-place-transitive p q r (inr h) (inl k) = inl (rw (h .0) k)
-place-transitive p q r (inr h) (inr k) = inr (h .0 ∙ k .0, set-transitive (p .inputs) (q .inputs) (r .inputs) (h .1) (k .1))
+use Rattle.places.proofs.laws.StrictOrder.{set-irreflexive}
+use Rattle.candidate_order.proofs.laws.Doubling.{codes-raised, codes-raised-zero}
+use Rattle.candidate_order.proofs.laws.SetList.{below-last, size-positive, Listed, sets-listed}
 
 -- each code one more: the order stays
 codes-before-raised : {s t : List ℕ} → CodesBefore s t → CodesBefore (map suc s) (map suc t)

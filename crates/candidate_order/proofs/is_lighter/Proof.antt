@@ -1,10 +1,10 @@
--- `places::is_lighter` meets its contract: both tests are those of the definition, and where the first fails the definition fails too.
+-- `candidate_order::is_lighter` meets its contract: both tests are those of the definition, and where the first fails the definition fails too.
 -- Assumes nothing.
 use mathlib.Core.Path.{sym, _∙_}
 use borrow.Author.Needs.{needs}
 use Rattle.places.specs.Places.{lighter}
-use Rattle.places.proofs.is_lighter.Statement.{statement}
-use Rattle.places.proofs.is_lighter.Tie as tie
+use Rattle.candidate_order.proofs.is_lighter.Statement.{statement}
+use Rattle.candidate_order.proofs.is_lighter.Tie as tie
 
 returns : tie.Need-returns
 unfolding lighter

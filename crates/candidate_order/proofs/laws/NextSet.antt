@@ -12,9 +12,9 @@ use lib.Dec.{eqb, ltb, leb·suc-suc}
 use lib.Pow.{pow-pos}
 use borrow.Author.Tests.{lt-ltb, le-ltb, eqb-true, eqb-false, eq-eqb, ne-eqb}
 use Rattle.foundation.proofs.laws.Booleans.{by-test}
 use Rattle.places.specs.Sets.{codes, size}
-use Rattle.places.proofs.laws.Doubling.{size-raised, size-raised-zero}
-use Rattle.places.proofs.laws.Highest.{highest, highest-one, HighestCode, highest-code, highest-is, highest-raised, highest-raised-zero}
+use Rattle.candidate_order.proofs.laws.Doubling.{size-raised, size-raised-zero}
+use Rattle.candidate_order.proofs.laws.Highest.{highest, highest-one, HighestCode, highest-code, highest-is, highest-raised, highest-raised-zero}
 
 -- a set with its highest code moved up by one, 0 of the empty set
 unfoldable pub movedUp : ℕ → ℕ

@@ -1,0 +1,12 @@
+pub mod Doubling
+pub mod SetList
+pub mod SetOrder
+pub mod CandidateOrder
+pub mod BitOperations
+pub mod Extending
+pub mod From
+pub mod Highest
+pub mod NextSet
+pub mod Position
+pub mod Succession
+pub mod Descendants
