@@ -1,8 +1,8 @@
--- Settings that are in their ranges: what the tests of the four say.
+-- Settings that are in their ranges: what the tests of the four say; and the first of the four that fails decides.
 -- Assumes nothing.
 use Prim.Native.Nat.{_≤_}
 use mathlib.Core.Path.{_≡_}
-use mathlib.Core.Bool.{true, _&&_, and-eq-true-iff}
+use mathlib.Core.Bool.{Bool, true, false, _&&_, and-eq-true-iff}
 use lib.Dec.{leb}
 use borrow.Author.Tests.{leb-true}
 use Rattle.limits.specs.declared.Settings.{Settings}
@@ -35,3 +35,23 @@ in-range s e =
       some-outputs = leb-true 1 (s .outputs) (and-eq-true-iff (leb 1 (s .outputs)) (leb (s .outputs) A) .0 (middle .1) .0);
       small-threshold = leb-true (s .threshold) 1000 (outer .1);
     }
+
+module _ (s : Settings) where
+  pub bound-fails : boundInRange (s .activities) ≡ false → false ≡ settingsInRange s
+  unfolding settingsInRange
+  bound-fails e = rw e
+
+  module _ (bound : boundInRange (s .activities) ≡ true) where
+    pub inputs-fail : sizeInRange (s .activities) (s .inputs) ≡ false → false ≡ settingsInRange s
+    unfolding settingsInRange
+    inputs-fail e = rw (bound, e)
+
+    module _ (inputs : sizeInRange (s .activities) (s .inputs) ≡ true) where
+      pub outputs-fail : sizeInRange (s .activities) (s .outputs) ≡ false → false ≡ settingsInRange s
+      unfolding settingsInRange
+      outputs-fail e = rw (bound, inputs, e)
+
+      pub threshold-decides : sizeInRange (s .activities) (s .outputs) ≡ true → (t : Bool) → t ≡ thresholdInRange (s .threshold)
+          → t ≡ settingsInRange s
+      unfolding settingsInRange
+      threshold-decides outputs t e = rw (bound, inputs, outputs) e
