@@ -7,14 +7,17 @@ use mathlib.Core.Bool.{Bool}
 use mathlib.Core.List.{List, []}
 use lib.Dec.{ltb}
 use lib.ListN.{length, take}
+use Rattle.foundation.specs.Lists.{foldl}
 use Rattle.foundation.specs.Buffers.{overwrite}
 use Rattle.limits.specs.declared.Settings.{Settings}
 use Rattle.limits.specs.Settings.{mostActivities}
+use Rattle.places.specs.declared.Place.{Place}
 use Rattle.log_format.specs.Frames.{WrittenLog}
 use Rattle.log_format.specs.Lines.{framesOf}
+use Rattle.balances.specs.Judgement.{verdict}
 use Rattle.candidate_search.specs.declared.Run.{Run}
-use Rattle.candidate_search.specs.Search.{State, Progress, stateOf}
-use Rattle.candidate_search.specs.Discovery.{summary}
+use Rattle.candidate_search.specs.Search.{State, Progress, going, step, stateOf}
+use Rattle.candidate_search.specs.Discovery.{summary, capacityOf}
 
 -- settings and a log that the checks of the call have passed, as far as the search needs it
 pub record Searchable (s : Settings) (text : List ℕ) : Type 0 where
@@ -34,6 +37,14 @@ stateIn r rejected found =
       visits = r .visits;
       pruned = [];
     }
+
+-- the run carried on over some candidates, from the counts and buffers as they are
+abbrev pub carriedOn : Settings → List ℕ → ℕ → Run → List ℕ → List ℕ → List Place → Progress
+carriedOn s text budget r rejected found cs =
+    foldl
+    (step (verdict (s .threshold) (framesOf text)) (capacityOf rejected found budget))
+    (going (stateIn r rejected found))
+    cs
 
 -- a run that has not stopped, and whose words are in its buffers
 pub record Stands (r : Run) (rejected found : List ℕ) : Type 0 where

@@ -3,15 +3,10 @@ ghost use mathlib.Core.Path.{_≡_};
 ghost use mathlib.Core.Bool.{true, cond};
 ghost use Prim.Native.Nat.{_+_, _≤_, _<_, _^_};
 ghost use lib.ListN.{length};
-ghost use Rattle.foundation.specs.Lists.{foldl};
 ghost use Rattle.limits.specs.Settings.{mostActivities};
 ghost use Rattle.places.specs.Candidates.{candidateSet, sets};
 ghost use Rattle.places.specs.Succession.{from, setAfter, setPast, withOutputs, candidatesFrom};
-ghost use Rattle.log_format.specs.Lines.{framesOf};
-ghost use Rattle.balances.specs.Judgement.{verdict};
-ghost use Rattle.candidate_search.specs.Search.{going, step};
-ghost use Rattle.candidate_search.specs.Discovery.{capacityOf};
-ghost use Rattle.discovery.specs.Standing.{Searchable, stateIn, Stands, Leaves};
+ghost use Rattle.discovery.specs.Standing.{Searchable, carriedOn, Stands, Leaves};
 use crate::Position;
 use crate::candidate::visit_candidate;
 use candidate_order::set::set_after;
@@ -45,8 +40,7 @@ fn search_inputs(
         × (candidateSet (settings .activities) (settings .inputs) (position .candidate .inputs) ≡ true)
         × (position .run .visits + length (from (position .candidate .inputs) (sets (settings .activities) (settings .inputs))) < 2 ^ 32) ⌝ }
     ensures { λ r. ⌜ Leaves
-        (foldl (step (verdict (settings .threshold) (framesOf (now (text .entry)))) (capacityOf (now (rejected .entry)) (now (found .entry)) budget))
-        (going (stateIn (position .run) (now (rejected .entry)) (now (found .entry))))
+        (carriedOn settings (now (text .entry)) budget (position .run) (now (rejected .entry)) (now (found .entry))
         (withOutputs (from (position .candidate .inputs) (sets (settings .activities) (settings .inputs))) (position .candidate .outputs)))
         (now (rejected .entry)) (now (found .entry)) r (now (rejected .exit)) (now (found .exit)) ⌝ }
 {
@@ -86,8 +80,7 @@ pub fn search_from(
         × (candidateSet (settings .activities) (settings .outputs) (position .candidate .outputs) ≡ true)
         × (position .run .visits + length (candidatesFrom settings (position .candidate)) < 2 ^ 32) ⌝ }
     ensures { λ r. ⌜ Leaves
-        (foldl (step (verdict (settings .threshold) (framesOf (now (text .entry)))) (capacityOf (now (rejected .entry)) (now (found .entry)) budget))
-        (going (stateIn (position .run) (now (rejected .entry)) (now (found .entry))))
+        (carriedOn settings (now (text .entry)) budget (position .run) (now (rejected .entry)) (now (found .entry))
         (candidatesFrom settings (position .candidate)))
         (now (rejected .entry)) (now (found .entry)) r (now (rejected .exit)) (now (found .exit)) ⌝ }
 {

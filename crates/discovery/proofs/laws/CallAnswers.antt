@@ -7,7 +7,6 @@ use mathlib.Core.Path.{_≡_, ap}
 use mathlib.Core.List.{List}
 use mathlib.Core.Option.{none, some}
 use lib.ListN.{length}
-use Rattle.foundation.specs.Lists.{foldl}
 use Rattle.limits.specs.declared.Refusal.{Refusal}
 use Rattle.limits.specs.declared.Settings.{Settings}
 use Rattle.limits.proofs.laws.SettingsRanges.{InRange}
@@ -16,15 +15,13 @@ use Rattle.places.specs.Candidates.{candidates, sets}
 use Rattle.places.specs.Succession.{candidatesFrom}
 use Rattle.candidate_order.proofs.laws.CandidateOrder.{fewer-candidates}
 use Rattle.candidate_order.proofs.laws.Succession.{from-first}
-use Rattle.log_format.specs.Lines.{framesOf}
 use Rattle.log_format.proofs.laws.WiderBound.{log-wider}
-use Rattle.balances.specs.Judgement.{verdict}
 use Rattle.candidate_search.specs.declared.Discovered.{Discovered}
 use Rattle.candidate_search.specs.declared.Discovered.the-variants.{Ran, Refused}
 use Rattle.candidate_search.specs.declared.Run.{Run}
-use Rattle.candidate_search.specs.Search.{going, start, step, search}
+use Rattle.candidate_search.specs.Search.{start, search}
 use Rattle.candidate_search.specs.Discovery.{run, runRefusal, discovered, capacityOf, foundAfter, rejectedAfter}
-use Rattle.discovery.specs.Standing.{Searchable, stateIn, Leaves}
+use Rattle.discovery.specs.Standing.{Searchable, stateIn, carriedOn, Leaves}
 use Rattle.candidate_search.proofs.laws.CallChecks.{NotRefused}
 use Rattle.discovery.proofs.laws.OutputsLeft.{rows-whole}
 
@@ -70,10 +67,7 @@ module _ (s : Settings) (text rejected found : List ℕ) (budget : ℕ) where
 
   pub run-answers : runRefusal s text ≡ none → InRange s → {r : Run} {rejected-after found-after : List ℕ}
       → Leaves
-      (foldl
-      (step (verdict (s .threshold) (framesOf text)) (capacityOf rejected found budget))
-      (going (stateIn fresh rejected found))
-      (candidatesFrom s (place 1 1)))
+      (carriedOn s text budget fresh rejected found (candidatesFrom s (place 1 1)))
       rejected
       found
       r
