@@ -1,0 +1,12 @@
+// Runs the search on buffers for each case of standard input, and compares the answer and every word of the buffers on return with the expected
+// ones. It writes a line for each case. What a case looks like is said in cases.rt.
+mod cases; // cases.rt: a line of input, its case run and compared
+mod runs; // runs.rt: the search called on filled buffers
+mod table; // table.rt: the parts of a line
+mod words; // words.rt: the words of the buffers
+
+fn main() {
+    let mut input = [0u8; 32768];
+    let count = io::read_full(0, &mut input);
+    cases::run_lines(&input[..count]);
+}
