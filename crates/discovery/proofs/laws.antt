@@ -1,4 +1,5 @@
 pub mod WordByWord
+pub mod AsTheyAre
 pub mod Recording
 pub mod Visiting
 pub mod PrunedAside

@@ -11,7 +11,7 @@ use lib.ListN.{length, length-append}
 use lib.Seq.{length-take-le}
 use Rattle.foundation.specs.Lists.{Each, foldl}
 use Rattle.foundation.specs.Buffers.{overwrite}
-use Rattle.foundation.proofs.laws.Buffers.{overwrite-front, take-overwritten, overwrite-again, overwrite-room}
+use Rattle.foundation.proofs.laws.Buffers.{take-overwritten, overwrite-again, overwrite-room}
 use Rattle.places.specs.declared.Place.{Place}
 use Rattle.balances.specs.declared.Verdict.{Verdict}
 use Rattle.candidate_search.specs.declared.Run.{Run}
@@ -19,6 +19,7 @@ use Rattle.candidate_search.specs.Search.{Capacity, State, Progress, going, sto
 use Rattle.candidate_search.specs.Discovery.{summary, capacityOf}
 use Rattle.discovery.specs.Standing.{stateIn, Stands, Leaves}
 use Rattle.candidate_search.proofs.laws.RunSteps.{EndGiven, Grown, run-grown, run-visits, run-end-given}
+use Rattle.discovery.proofs.laws.AsTheyAre.{stands-leaves}
 use Rattle.discovery.proofs.laws.PrunedAside.{NotBelow, pruning, pruningBelow, run-aside}
 
 -- two runs that answer the same and have the same words
@@ -90,22 +91,6 @@ same-room : (rejected found rejected′ found′ : List ℕ) (budget : ℕ) → 
     → capacityOf rejected′ found′ budget ≡ capacityOf rejected found budget
 unfolding capacityOf
 same-room rejected found rejected′ found′ budget e f = rw (e, f)
-
--- buffers hold the state that they stand for
-stands-leaves : {r : Run} {rejected found : List ℕ} → Stands r rejected found
-    → Leaves (going (stateIn r rejected found)) rejected found r rejected found
-unfolding stateIn summary endOf stateOf
-stands-leaves {r} {rejected} {found} stands =
-    record {
-      answered =
-          rw (
-            length-take-le (r .rejected) rejected (stands .rejected-there),
-            length-take-le (r .found) found (stands .found-there),
-            sym (stands .goes-on),
-          );
-      rejected-left = sym (overwrite-front rejected (r .rejected) (stands .rejected-there));
-      found-left = sym (overwrite-front found (r .found) (stands .found-there));
-    }
 
 -- what was left in buffers that keep their lengths stands there, if the run goes on
 leaves-stands : (p : Progress) {r : Run} {rejected found rejected′ found′ : List ℕ} → Leaves p rejected found r rejected′ found′ → r .end ≡ 0

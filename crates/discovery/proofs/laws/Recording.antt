@@ -13,7 +13,7 @@ use lib.Seq.{length-take-le}
 use borrow.Author.Tests.{lt-ltb, le-ltb}
 use Rattle.foundation.specs.Lists.{any}
 use Rattle.foundation.specs.Buffers.{overwrite}
-use Rattle.foundation.proofs.laws.Buffers.{overwrite-front, overwrite-next}
+use Rattle.foundation.proofs.laws.Buffers.{overwrite-next}
 use Rattle.places.specs.declared.Place.{Place}
 use Rattle.places.specs.Places.{word}
 use Rattle.places.proofs.laws.Words.{Storable}
@@ -28,6 +28,7 @@ use Rattle.candidate_search.specs.Search.{State, Progress, going, stopped, with
 use Rattle.candidate_search.specs.Discovery.{summary, capacityOf}
 use Rattle.discovery.specs.Standing.{stateIn, Stands, Leaves, prunes}
 use Rattle.candidate_search.proofs.laws.Rulings.{isOverfed, own-overfed, overfed-more}
+use Rattle.discovery.proofs.laws.AsTheyAre.{rejected-same, found-same, stopped-leaves, stands-leaves}
 
 -- what a ruling says: that a word rules the candidate overfed, and that one rules it at all
 abbrev pub saysOverfed : Ruling → Bool
@@ -103,7 +104,7 @@ module _ (c : Place) (budget : ℕ) {run : Run} {rejected found : List ℕ} (sta
                 length-take-le (run .found) found (stands .found-there),
                 length-take-le (run .rejected) rejected (stands .rejected-there),
               );
-          rejected-left = sym (overwrite-front rejected (run .rejected) (stands .rejected-there));
+          rejected-left = rejected-same stands;
           found-left = overwrite-next found (run .found) (word c) room;
         },
         refl,
@@ -124,19 +125,7 @@ module _ (c : Place) (budget : ℕ) {run : Run} {rejected found : List ℕ} (sta
       found
       × (false ≡ prunes (after Fitting))
   unfolding stateIn summary prunes endOf stateOf
-  list-full full =
-      rw (stops full) (
-        record {
-          answered =
-              rw (
-                length-take-le (run .found) found (stands .found-there),
-                length-take-le (run .rejected) rejected (stands .rejected-there),
-              );
-          rejected-left = sym (overwrite-front rejected (run .rejected) (stands .rejected-there));
-          found-left = sym (overwrite-front found (run .found) (stands .found-there));
-        },
-        refl,
-      )
+  list-full full = rw (stops full) (stopped-leaves stands 2, refl)
 
   -- a candidate that does not fit
   module _ (v : Verdict) (marked : 0 < mark v) where
@@ -206,7 +195,7 @@ module _ (c : Place) (budget : ℕ) {run : Run} {rejected found : List ℕ} (sta
         kept = overwrite-next rejected (run .rejected) (rejectedWord c v) room
 
         same : found ≡ overwrite (stored .found) found
-        same = sym (overwrite-front found (run .found) (stands .found-there))
+        same = found-same stands
 
         go : (b : Bool)
             → Leaves
@@ -230,17 +219,4 @@ module _ (c : Place) (budget : ℕ) {run : Run} {rejected found : List ℕ} (sta
         found
         × (false ≡ prunes (after v))
     unfolding stateIn summary prunes endOf stateOf
-    word-dropped full =
-        rw (drops full) (
-          record {
-            answered =
-                rw (
-                  stands .goes-on,
-                  length-take-le (run .found) found (stands .found-there),
-                  length-take-le (run .rejected) rejected (stands .rejected-there),
-                );
-            rejected-left = sym (overwrite-front rejected (run .rejected) (stands .rejected-there));
-            found-left = sym (overwrite-front found (run .found) (stands .found-there));
-          },
-          refl,
-        )
+    word-dropped full = rw (drops full) (stands-leaves stands, refl)

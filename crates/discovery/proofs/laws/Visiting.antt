@@ -2,14 +2,12 @@
 -- rules stops the run where the budget is spent, and else is counted as visited and replayed, which leaves the rest to what follows a replay.
 -- Assumes nothing.
 use Prim.Native.Nat.{ℕ, _+_, _≤_, _<_}
-use mathlib.Core.Path.{_≡_, refl, sym, _∙_}
+use mathlib.Core.Path.{_≡_, refl, _∙_}
 use mathlib.Core.Bool.{Bool, true, false, cond}
 use mathlib.Core.List.{List}
 use lib.ListN.{take}
 use lib.Seq.{length-take-le}
 use borrow.Author.Tests.{le-leb, lt-leb}
-use Rattle.foundation.specs.Buffers.{overwrite}
-use Rattle.foundation.proofs.laws.Buffers.{overwrite-front}
 use Rattle.places.specs.declared.Place.{Place}
 use Rattle.balances.specs.declared.Verdict.{Verdict}
 use Rattle.discovery.specs.declared.Ruling.{Ruling}
@@ -19,6 +17,7 @@ use Rattle.discovery.specs.Rulings.{rulingOf}
 use Rattle.candidate_search.specs.Search.{State, Progress, going, stopped, visited, replayedOnce, withPruned, proceed, conclude, replay, visit, stateOf, endOf}
 use Rattle.candidate_search.specs.Discovery.{summary, capacityOf}
 use Rattle.discovery.specs.Standing.{stateIn, Stands, Leaves, prunes}
+use Rattle.discovery.proofs.laws.AsTheyAre.{rejected-same, found-same, stopped-leaves}
 use Rattle.discovery.proofs.laws.Recording.{saysOverfed, saysRuled, ruling-says}
 
 module _ (verdict : Place → Verdict) (budget : ℕ) (c : Place) {run : Run} {rejected found : List ℕ} (stands : Stands run rejected found) where
@@ -27,15 +26,6 @@ module _ (verdict : Place → Verdict) (budget : ℕ) (c : Place) {run : Run} {r
 
   abbrev after : Progress
   after = visit verdict (capacityOf rejected found budget) c state
-
-  -- the buffers as they are
-  rejected-same : rejected ≡ overwrite (state .rejected) rejected
-  unfolding stateIn
-  rejected-same = sym (overwrite-front rejected (run .rejected) (stands .rejected-there))
-
-  found-same : found ≡ overwrite (state .found) found
-  unfolding stateIn
-  found-same = sym (overwrite-front found (run .found) (stands .found-there))
 
   skips : (r : Ruling) → rulingOf (state .rejected) c ≡ r → saysRuled r ≡ true
       → after ≡ going (cond (saysOverfed r) (withPruned c (visited state)) (visited state))
@@ -76,8 +66,8 @@ module _ (verdict : Place → Verdict) (budget : ℕ) (c : Place) {run : Run} {r
           rejected
           found
           × (b ≡ prunes p)
-      go true = (record { answered = counted; rejected-left = rejected-same; found-left = found-same }, refl)
-      go false = (record { answered = counted; rejected-left = rejected-same; found-left = found-same }, refl)
+      go true = (record { answered = counted; rejected-left = rejected-same stands; found-left = found-same stands }, refl)
+      go false = (record { answered = counted; rejected-left = rejected-same stands; found-left = found-same stands }, refl)
 
   module _ (unruled : rulingOf (state .rejected) c ≡ Unruled) where
     stops : budget ≤ run .replays → after ≡ stopped 1 state
@@ -95,19 +85,7 @@ module _ (verdict : Place → Verdict) (budget : ℕ) (c : Place) {run : Run} {r
         found
         × (false ≡ prunes after)
     unfolding stateIn summary prunes endOf stateOf
-    budget-spent spent =
-        rw (stops spent) (
-          record {
-            answered =
-                rw (
-                  length-take-le (run .found) found (stands .found-there),
-                  length-take-le (run .rejected) rejected (stands .rejected-there),
-                );
-            rejected-left = rejected-same;
-            found-left = found-same;
-          },
-          refl,
-        )
+    budget-spent spent = rw (stops spent) (stopped-leaves stands 1, refl)
 
     -- the candidate is replayed
     pub replays-it : run .replays < budget
