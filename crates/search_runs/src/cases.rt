@@ -92,7 +92,10 @@ fn run_twice(values: &[u64; 40], text: &[u8]) -> bool {
     let a = fill_and_search(settings, text, room, &mut rejected, &mut shorter);
     let room = capacity(values[7], values[8], values[9]);
     let b = fill_and_search(settings, text, room, &mut rejected, &mut longer);
-    a.run.found <= b.run.found && begins_with(&longer, &shorter, a.run.found)
+    a.number == 0
+        && b.number == 0
+        && a.run.found <= b.run.found
+        && begins_with(&longer, &shorter, a.run.found)
 }
 
 // Writes what a case is called, and whether it came as expected.
