@@ -1,1 +1,2 @@
 pub mod SettingsRanges
+pub mod FirstOf

@@ -1,7 +1,6 @@
 pub mod Lines
 pub mod PairLaws
 pub mod TraceLaws
-pub mod FirstOf
 pub mod LineFaults
 pub mod FrameLines
 pub mod TextLines

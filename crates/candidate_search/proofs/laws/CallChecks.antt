@@ -18,7 +18,7 @@ use Rattle.log_format.specs.declared.Checked.the-variants.{Accepted, Refused}
 use Rattle.log_format.specs.Frames.{WrittenLog, totalCases}
 use Rattle.log_format.specs.Lines.{framesOf}
 use Rattle.log_format.specs.Checking.{logRefusal, checked}
-use Rattle.log_format.proofs.laws.FirstOf.{given-none}
+use Rattle.limits.proofs.laws.FirstOf.{given-none}
 use Rattle.log_format.proofs.laws.LogChecks.{log-passes, answer-refused, answer-accepted}
 use Rattle.log_format.proofs.laws.Written.{text-written}
 use Rattle.candidate_search.specs.Discovery.{runRefusal}

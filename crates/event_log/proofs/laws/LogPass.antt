@@ -25,7 +25,7 @@ use Rattle.log_format.specs.Checking.{lineFault, linesFault, textFault, checked
 use Rattle.log_lines.specs.Reading.{lineChecked}
 use Rattle.event_log.specs.Pass.{linesChecked}
 use Rattle.log_format.proofs.laws.Lines.{lines-step}
-use Rattle.log_format.proofs.laws.FirstOf.{only-one}
+use Rattle.limits.proofs.laws.FirstOf.{only-one}
 use Rattle.log_format.proofs.laws.FrameLines.{no-fault-framed}
 use Rattle.log_format.proofs.laws.LogChecks.{bound-passes, lines-decide}
 

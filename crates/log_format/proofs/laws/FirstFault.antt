@@ -16,7 +16,7 @@ use Rattle.log_format.specs.declared.Checked.the-variants.{Refused}
 use Rattle.log_format.specs.Frames.{totalCases}
 use Rattle.log_format.specs.Lines.{Line, lines, framesOf}
 use Rattle.log_format.specs.Checking.{lineFault, linesFault, textFault, checked}
-use Rattle.log_format.proofs.laws.FirstOf.{first-some}
+use Rattle.limits.proofs.laws.FirstOf.{first-some}
 use Rattle.log_format.proofs.laws.LogChecks.{bound-passes, lines-decide, answer-refused}
 use Rattle.log_format.proofs.laws.LineFaults.{NamesLine, fault-order, names-line}
 

@@ -18,7 +18,7 @@ use Rattle.limits.specs.Refusals.{firstRefusal, answer}
 use Rattle.limits.specs.Settings.{boundInRange, boundFault}
 use Rattle.log_format.specs.declared.Checked.the-variants.{Accepted, Refused}
 use Rattle.log_format.specs.Checking.{emptyFault, textFault, logRefusal, checked}
-use Rattle.log_format.proofs.laws.FirstOf.{given-none, only-one, first-none}
+use Rattle.limits.proofs.laws.FirstOf.{given-none, only-one, first-none}
 
 pub bound-passes : (A : ℕ) → (boundFault A ≡ none) ↔ (boundInRange A ≡ true)
 unfolding boundFault

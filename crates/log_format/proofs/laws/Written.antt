@@ -21,7 +21,7 @@ use Rattle.log_format.specs.Frames.{Frame, FrameUnder, WrittenLog, mostF
 use Rattle.log_format.specs.Lines.{Line, lines, frameOf, framesOf}
 use Rattle.log_format.specs.Checking.{lineFault, linesFault, textFault, logRefusal, checked}
 use Rattle.log_format.proofs.laws.Lines.{lines-step}
-use Rattle.log_format.proofs.laws.FirstOf.{first-none}
+use Rattle.limits.proofs.laws.FirstOf.{first-none}
 use Rattle.log_format.proofs.laws.LogChecks.{log-passes, bound-passes, lines-decide, answer-accepted}
 use Rattle.log_format.proofs.laws.FrameLines.{frameLine, FramedLine, under-back, frame-no-fault, no-fault-framed}
 use Rattle.log_format.proofs.laws.TextLines.{lineText, text-of-lines, written-text, lines-written}

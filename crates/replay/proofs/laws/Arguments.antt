@@ -19,7 +19,7 @@ use Rattle.log_format.specs.Frames.{WrittenLog, totalCases}
 use Rattle.log_format.specs.Lines.{framesOf}
 use Rattle.log_format.specs.Checking.{emptyFault, logRefusal}
 use Rattle.event_log.specs.Pass.{linesChecked}
-use Rattle.log_format.proofs.laws.FirstOf.{given-none}
+use Rattle.limits.proofs.laws.FirstOf.{given-none}
 use Rattle.log_format.proofs.laws.LogChecks.{lines-decide, log-passes, answer-refused, answer-accepted}
 use Rattle.log_format.proofs.laws.Written.{text-written}
 use Rattle.balances.specs.declared.Judged.the-variants.{Counted}
