@@ -3,7 +3,7 @@
 use Rattle.report.specs.Writing.{placeLine, listText, writingRefusal, written, writtenAfter}
 use Rattle.report.specs.Program.{capacity, settingsMalformed, settingsIn, logIn, programRefusal, refusalLine, resultLine, reportedWords, report, placelist}
 use Rattle.candidate_search.proofs.Opened.{opened as opened-search}
-use Rattle.reduction.proofs.Opened.{opened as opened-reduction}
+use Rattle.redundancy.proofs.Opened.{opened as opened-reduction}
 
 unfoldable pub opened : Unit {0}
 unfolding placeLine listText writingRefusal written writtenAfter capacity settingsMalformed settingsIn logIn programRefusal refusalLine resultLine reportedWords report placelist opened-search opened-reduction

@@ -14,7 +14,7 @@ use Rattle.limits.specs.Refusals.{number, value, given, firstOf, answer}
 use Rattle.hex_digits.specs.Digits.{isDigit, readHex, writeHex, lineFeed}
 use Rattle.candidate_search.specs.Search.{Capacity, holding, Progress, endOf, stateOf}
 use Rattle.candidate_search.specs.Discovery.{run, runRefusal}
-use Rattle.reduction.specs.Reduction.{reducedWords}
+use Rattle.redundancy.specs.Reduction.{reducedWords}
 use Rattle.report.specs.Writing.{listText}
 
 -- the most bytes that it reads

@@ -21,8 +21,8 @@ use Rattle.balances.specs.Answers.{replayed, judged}
 use Rattle.candidate_search.specs.declared.Discovered.the-variants.{Ran}
 use Rattle.candidate_search.specs.Search.{holding, stateOf}
 use Rattle.candidate_search.specs.Discovery.{run, discovered}
-use Rattle.reduction.specs.declared.Reduced.the-variants.{Kept}
-use Rattle.reduction.specs.Reduction.{reduced, reducedWords}
+use Rattle.redundancy.specs.declared.Reduced.the-variants.{Kept}
+use Rattle.redundancy.specs.Reduction.{reduced, reducedWords}
 use Rattle.report.specs.Program.{placelist}
 
 abbrev pub minus : ℕ → ℤ

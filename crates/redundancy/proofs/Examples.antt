@@ -8,10 +8,10 @@ use Rattle.foundation.specs.Lists.{each-nil, each-cons}
 use Rattle.limits.specs.declared.Refusal.the-variants.{InvalidPlace, BufferTooSmall}
 use Rattle.places.specs.Places.{place, word}
 use Rattle.places.proofs.Examples.{figure1}
-use Rattle.reduction.specs.declared.Reduced.the-variants.{Kept, Refused}
-use Rattle.reduction.specs.Unions.{UnionOf}
-use Rattle.reduction.specs.Reduction.{reducedWords, reduced, reducedAfter}
-use Rattle.reduction.proofs.Opened.{opened}
+use Rattle.redundancy.specs.declared.Reduced.the-variants.{Kept, Refused}
+use Rattle.redundancy.specs.Unions.{UnionOf}
+use Rattle.redundancy.specs.Reduction.{reducedWords, reduced, reducedAfter}
+use Rattle.redundancy.proofs.Opened.{opened}
 
 -- a list word, inputs then outputs
 abbrev pair : ℕ → ℕ → ℕ

@@ -11,9 +11,9 @@ use Rattle.foundation.specs.Buffers.{overwrite}
 use Rattle.limits.specs.declared.Refusal.{Refusal}
 use Rattle.limits.specs.Refusals.{answer}
 use Rattle.places.specs.Places.{placeOf, wordsRefusal}
-use Rattle.reduction.specs.declared.Reduced.{Reduced}
-use Rattle.reduction.specs.declared.Reduced.the-variants.{Kept, Refused}
-use Rattle.reduction.specs.Unions.{isUnion}
+use Rattle.redundancy.specs.declared.Reduced.{Reduced}
+use Rattle.redundancy.specs.declared.Reduced.the-variants.{Kept, Refused}
+use Rattle.redundancy.specs.Unions.{isUnion}
 
 -- a word is redundant, and dropped, exactly if its place is the union of two or more non-overlapping places of the list
 unfoldable pub redundant : List ℕ → ℕ → Bool

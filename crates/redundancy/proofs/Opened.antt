@@ -1,7 +1,7 @@
 -- One name for all definitions of this layer and of those below it: a proof by computation says `unfolding opened`.
 -- Assumes nothing.
-use Rattle.reduction.specs.Unions.{joinAll, samePlace, compose, isUnion}
-use Rattle.reduction.specs.Reduction.{redundant, reducedWords, reductionRefusal, reduced, reducedAfter}
+use Rattle.redundancy.specs.Unions.{joinAll, samePlace, compose, isUnion}
+use Rattle.redundancy.specs.Reduction.{redundant, reducedWords, reductionRefusal, reduced, reducedAfter}
 use Rattle.places.proofs.Opened.{opened as opened-places}
 
 unfoldable pub opened : Unit {0}

@@ -12,8 +12,8 @@ use Rattle.foundation.specs.Lists.{Each, pairwise}
 use Rattle.foundation.proofs.laws.Lists.{each-head, each-tail, pairwise-first, pairwise-skip, pairwise-tail}
 use Rattle.places.specs.declared.Place.{Place}
 use Rattle.places.specs.Places.{place, word, placeOf, nonOverlapping}
-use Rattle.reduction.specs.Unions.{joinAll, UnionOf}
-use Rattle.reduction.proofs.Opened.{opened}
+use Rattle.redundancy.specs.Unions.{joinAll, UnionOf}
+use Rattle.redundancy.proofs.Opened.{opened}
 
 -- two equal parts do not stand apart, where their place overlaps itself
 clash : {q a b : Place} → nonOverlapping q q ≡ false → a ≡ q → b ≡ q → nonOverlapping a b ≡ true → ⊥
