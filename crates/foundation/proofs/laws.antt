@@ -4,6 +4,7 @@ pub mod Each
 pub mod Any
 pub mod Keeping
 pub mod Members
+pub mod Sublists
 pub mod Ordered
 pub mod Sums
 pub mod Integers

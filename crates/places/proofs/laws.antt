@@ -1,4 +1,5 @@
 pub mod Bounds
 pub mod Lighter
+pub mod SetBits
 pub mod StrictOrder
 pub mod Words

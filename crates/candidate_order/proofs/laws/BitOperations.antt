@@ -1,39 +1,24 @@
--- What operations on a set's bits say of its codes. The bits that two sets share are the codes of both, and two sets with the same codes are
--- equal, so a set is within another exactly if the bits that they share are all its own. A set has as many codes as bits that are set, since
--- halving it takes the same from both counts.
+-- What operations on a set's bits say of its codes. The bits that two sets share are the codes of both, so a set is within another exactly if
+-- the bits that they share are all its own. A set has as many codes as bits that are set, since halving it takes the same from both counts.
 -- Assumes nothing.
-use Prim.Native.Nat.{ℕ, zero, suc, _+_, _*_, _/_, _%_, _^_, _≤_, _<_, min}
+use Prim.Native.Nat.{ℕ, zero, suc, _+_, _*_, _/_, _%_, _^_, _≤_, _<_}
 use native.Mathlib.Omega.{arith}
 use native.Mathlib.Nat.{pow-suc, lt-of-lt-of-le}
-use mathlib.Core.Path.{_≡_, sym, ap, _∙_}
+use mathlib.Core.Path.{_≡_, ap, _∙_}
 use mathlib.Core.Bool.{true}
 use lib.Arith.{lt-one}
 use lib.Dec.{eqb}
 use lib.Pow.{pow-mono}
-use lib.Bits.{bitAnd, and-step, and-shr, and-le-l}
+use lib.Bits.{bitAnd, and-le-l}
 use lib.Count.{ones, ones-step}
 use borrow.Author.Tests.{eqb-true, eqb-false, eq-eqb, ne-eqb}
 use Rattle.foundation.proofs.laws.Booleans.{by-test, impossible}
 use Rattle.foundation.proofs.laws.Each.{all-kept, each-upTo}
 use Rattle.limits.specs.Settings.{mostActivities}
 use Rattle.places.specs.Sets.{has, member, codes, size, within}
-use Rattle.candidate_order.proofs.laws.Doubling.{has-half, size-raised, size-raised-zero}
+use Rattle.candidate_order.proofs.laws.Doubling.{size-raised, size-raised-zero}
 use Rattle.places.proofs.laws.Lighter.{within-has}
-
--- a code stands in the common bits where it stands in both sets
-has-and : (s t a : ℕ) → has (bitAnd s t) a ≡ min (has s a) (has t a)
-has-and s t a = rw (and-shr s t a) (omega (arith, and-step (s / 2 ^ a) (t / 2 ^ a)))
-
--- two sets of codes below k with the same codes are equal
-same-codes : (k s t : ℕ) → s < 2 ^ k → t < 2 ^ k → ((a : ℕ) → a < k → has s a ≡ has t a) → s ≡ t
-same-codes zero s t hs ht same = omega arith
-same-codes (suc k) s t hs ht same =
-    omega (
-      arith,
-      same 0 (omega arith),
-      same-codes k (s / 2) (t / 2) (omega (arith, pow-suc 2 k)) (omega (arith, pow-suc 2 k)) λ a l.
-          sym (has-half s a) ∙ same (suc a) (omega arith) ∙ has-half t a,
-    )
+use Rattle.places.proofs.laws.SetBits.{has-and, same-codes}
 
 module _ (s t : ℕ) (small : s < 2 ^ 16) where
   within-shared : within s t ≡ true → bitAnd s t ≡ s

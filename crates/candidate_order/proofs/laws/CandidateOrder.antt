@@ -25,6 +25,7 @@ use Rattle.places.specs.Places.{place, through, below, placeUnder}
 use Rattle.places.specs.Order.{PlaceBefore}
 use Rattle.places.specs.Candidates.{candidateSet, candidate, sets, candidates}
 use Rattle.candidate_order.proofs.laws.SetList.{Listed, sets-listed, set-listed, fewer-sets}
+use Rattle.places.proofs.laws.Bounds.{under-wider}
 use Rattle.places.proofs.laws.StrictOrder.{place-irreflexive}
 use Rattle.candidate_order.proofs.laws.SetOrder.{sets-ascending}
 
@@ -96,6 +97,15 @@ module _ (s : Settings) where
     sets-decide = rw by-sets (Iff·symm (and-eq-true-iff inputsPass outputsPass))
 
   module _ (few : s .activities ≤ mostActivities) where
+    -- a candidate is a place that a call without settings takes
+    pub candidate-under : (p : Place) → candidate s p ≡ true → placeUnder mostActivities p ≡ true
+    unfolding candidate
+    candidate-under p e =
+        let under = placeUnder (s .activities) p in
+        let inputs = leb (size (p .inputs)) (s .inputs) in
+        let both = and-eq-true-iff (under && inputs) (leb (size (p .outputs)) (s .outputs)) .0 e in
+        under-wider (s .activities) mostActivities p few (and-eq-true-iff under inputs .0 (both .0) .0)
+
     -- the list holds exactly the candidates
     pub candidate-listed : (p : Place) → List·Memᴰ p (candidates s) ↔ (candidate s p ≡ true)
     candidate-listed p = Iff·trans (pairs-listed p) (Iff·trans both-listed (sets-decide p))

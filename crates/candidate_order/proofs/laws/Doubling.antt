@@ -1,9 +1,9 @@
 -- A set of codes below 15 with each code one more is the set doubled, and with code 0 besides it is one more than that: half of either is the set
 -- itself, so its code a + 1 is the set's code a, and whether it is odd says whether it has code 0.
 -- Assumes nothing.
-use Prim.Native.Nat.{ℕ, suc, _+_, _*_, _/_, _%_, _^_, _<_}
+use Prim.Native.Nat.{ℕ, suc, _+_, _*_, _^_, _<_}
 use native.Mathlib.Omega.{arith}
-use native.Mathlib.Nat.{div-eq-of-lt, div-div-eq-div-mul, pow-succ'}
+use native.Mathlib.Nat.{div-eq-of-lt}
 use mathlib.Core.Path.{_≡_, sym, ap, _∙_}
 use mathlib.Core.Bool.{cond}
 use mathlib.Core.List.{List, [], _∷_, map, append-nil}
@@ -12,10 +12,7 @@ use lib.ListN.{length, length-map}
 use Rattle.foundation.specs.Lists.{keep, upTo}
 use Rattle.foundation.proofs.laws.Lists.{keep-append, keep-map, upTo-raised}
 use Rattle.places.specs.Sets.{has, member, codes, size}
-
--- a code above 0 is in a set if the code below it is in the set's half
-pub has-half : (t a : ℕ) → has t (suc a) ≡ has (t / 2) a
-has-half t a = rw pow-succ' (ap (λ (q : ℕ). q % 2) (sym (div-div-eq-div-mul t 2 (2 ^ a))))
+use Rattle.places.proofs.laws.SetBits.{has-half}
 
 -- the codes of the raised sets: those of the set, each one more, and code 0 in the second alone
 module _ (s : ℕ) where

@@ -44,3 +44,11 @@ module _ (buffer : List ℕ) where
   -- what leaves the buffer as long as it was had room in it
   pub overwrite-room : (words : List ℕ) → length (overwrite words buffer) ≡ length buffer → length words ≤ length buffer
   overwrite-room words e = omega (arith, length-append words (drop (length words) buffer))
+
+-- one word more after those that were written
+pub overwrite-more : (buffer words : List ℕ) (w : ℕ) → length words < length (overwrite words buffer)
+    → set (overwrite words buffer) (length words) w ≡ overwrite (words ++ (w ∷ [])) buffer
+overwrite-more buffer words w l =
+    overwrite-next (overwrite words buffer) (length words) w l
+    ∙ ap (λ (front : List ℕ). overwrite (front ++ (w ∷ [])) (overwrite words buffer)) (take-overwritten buffer words)
+    ∙ overwrite-again buffer words (words ++ (w ∷ [])) (omega (arith, length-append words (w ∷ [])))

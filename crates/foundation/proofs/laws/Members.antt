@@ -1,10 +1,14 @@
--- Laws of what is in a list: what holds of each element holds of a member; a member of the kept elements is a member that passes; a member of lists in
--- turn is a member of one of them.
+-- Laws of what is in a list: what holds of each element holds of a member, and what holds of every member holds of each element; what stands at an
+-- index is a member; a member of the kept elements is a member that passes; a member of lists in turn is a member of one of them; members of the
+-- images are images of members.
 -- Assumes nothing.
-use mathlib.Core.Path.{_≡_, refl, sym, ap, subst, _∙_}
+use Prim.Native.Nat.{ℕ, zero, suc, _<_}
+use native.Mathlib.Omega.{arith}
+use mathlib.Core.Path.{_≡_, refl, sym, ap, ap₂, subst, _∙_}
 use mathlib.Core.Logic.{_↔_, ⊎-elim}
 use mathlib.Core.Bool.{Bool, true, false, cond}
-use mathlib.Core.List.{List, [], _∷_, flatMap, List·Memᴰ, List·Memᴰ·head, List·Memᴰ·tail, List·Memᴰ·not-nil, List·Memᴰ·cases-cons, List·Memᴰ·append-cases, Memᴰ·append-left, Memᴰ·append-right}
+use mathlib.Core.List.{List, [], _∷_, map, flatMap, List·Memᴰ, List·Memᴰ·head, List·Memᴰ·tail, List·Memᴰ·not-nil, List·Memᴰ·cases-cons, List·Memᴰ·append-cases, Memᴰ·append-left, Memᴰ·append-right, Memᴰ·of-map}
+use lib.ListN.{length, getD}
 use Rattle.foundation.specs.Lists.{Each, each-nil, each-cons, keep}
 
 -- what holds of each element holds of a member
@@ -12,6 +16,17 @@ pub each-member : {A : Type 0} {P : A → Type 0} {x : A} {xs : List A} → Each
 each-member each-nil m = absurd (List·Memᴰ·not-nil m)
 each-member {P = P} (each-cons here later) m =
     ⊎-elim (λ e. subst P (sym e) here) (λ after. each-member later after) (List·Memᴰ·cases-cons m)
+
+-- what stands at an index is a member
+pub member-at : {A : Type 0} (xs : List A) (at : ℕ) (d : A) → at < length xs → List·Memᴰ (getD xs at d) xs
+member-at [] at d l = absurd (omega arith)
+member-at (x ∷ xs) zero d l = List·Memᴰ·head refl
+member-at (x ∷ xs) (suc at) d l = List·Memᴰ·tail (member-at xs at d (omega arith))
+
+-- what holds of every member holds of each element
+pub members-each : {A : Type 0} {P : A → Type 0} (xs : List A) → ((x : A) → List·Memᴰ x xs → P x) → Each P xs
+members-each [] h = each-nil
+members-each (x ∷ xs) h = each-cons (h x (List·Memᴰ·head refl)) (members-each xs λ y later. h y (List·Memᴰ·tail later))
 
 -- the members of the elements that pass a test are the members that pass it
 module _ {A : Type 0} (p : A → Bool) {x : A} where
@@ -53,3 +68,12 @@ module _ {A B : Type 0} (f : A → List B) {y : B} where
 
   pub member-flatMap : (xs : List A) → List·Memᴰ y (flatMap f xs) ↔ ((x : A) × List·Memᴰ x xs × List·Memᴰ y (f x))
   member-flatMap xs = (split-member xs, λ found. member-split (found .1) (found .2))
+
+-- elements that are each an image of a member are the images of members
+pub each-of-map : {A B : Type 0} (f : A → B) (xs : List A) {ys : List B} → Each (λ (y : B). List·Memᴰ y (map f xs)) ys
+    → (s : List A) × Each (λ (x : A). List·Memᴰ x xs) s × (map f s ≡ ys)
+each-of-map f xs each-nil = ([], each-nil, refl)
+each-of-map f xs (each-cons here later) =
+    let first = Memᴰ·of-map f xs here in
+    let rest = each-of-map f xs later in
+    (first .0 ∷ rest .0, each-cons (first .1) (rest .1), ap₂ _∷_ (first .2) (rest .2))
