@@ -3,3 +3,4 @@ pub mod Lighter
 pub mod SetBits
 pub mod StrictOrder
 pub mod Words
+pub mod ListFaults

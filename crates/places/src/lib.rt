@@ -1,6 +1,8 @@
 // Sets of activities and places: document 01, "Candidates and their order" and the first sentences of "Tokens in one trace".
 ghost use mathlib.Core.Path.{_≡_};
-ghost use Rattle.places.specs.Places.{below, placeUnder, word};
+ghost use Rattle.places.specs.Places.{below, placeUnder, word, placeOf};
+
+pub mod list; // list.rt: lists of places by their words
 
 // A place (I, O): its input and its output activities, as sets in which code a stands for 2 to the power a.
 pub struct Place {
@@ -33,4 +35,14 @@ pub fn word_of(place: Place) -> u32
     ensures { λ r. ⌜ r ≡ word place ⌝ }
 {
     place.inputs as u32 + 65536 * place.outputs as u32
+}
+
+// The place that a list word stands for.
+pub fn place_of(word: u32) -> Place
+    ensures { λ r. ⌜ r ≡ placeOf word ⌝ }
+{
+    Place {
+        inputs: (word % 65536) as u16,
+        outputs: (word / 65536) as u16,
+    }
 }
