@@ -1,1 +1,9 @@
 pub mod NoUnion
+pub mod Parts
+pub mod Covers
+pub mod Sharing
+pub mod PlaceWords
+pub mod Partitions
+pub mod CoverChoices
+pub mod UnionTests
+pub mod Reducing
