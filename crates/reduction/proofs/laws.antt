@@ -1,0 +1,4 @@
+pub mod Tallying
+pub mod Rarity
+pub mod Trying
+pub mod KeptWords

@@ -1,0 +1,111 @@
+// Whether a place is the union of two or more non-overlapping places of a list, by a search for an exact cover of its activities: document 01,
+// "Thinning and writing" and "Some places and their forms". Over list words, in which inputs and outputs are one set of activities.
+ghost use mathlib.Core.Path.{_≡_};
+ghost use mathlib.Core.Logic.{_↔_};
+ghost use mathlib.Core.Bool.{true};
+ghost use Prim.Native.Nat.{_<_};
+ghost use Rattle.places.specs.Sets.{has};
+ghost use Rattle.limits.specs.Settings.{mostActivities};
+ghost use Rattle.places.specs.Places.{placeOf, placeUnder};
+ghost use Rattle.redundancy.specs.Cover.{Listable, usable, Cover};
+ghost use Rattle.redundancy.specs.Reduction.{redundant};
+ghost use Rattle.reduction.specs.Choosing.{Tallied, Chosen};
+use crate::Choice;
+use crate::Tally;
+
+// Whether a word can be the next part of what is left of a whole.
+fn is_usable(word: u32, whole: u32, left: u32) -> bool
+    ensures { λ r. ⌜ r ≡ usable whole left word ⌝ }
+{
+    word & left == word && word != whole
+}
+
+// How many of the words that can be the next part have an activity, told apart up to three.
+fn tally_of(words: &[u32], whole: u32, left: u32) -> Tally
+    ensures { λ r. ⌜ Tallied (now (words .entry)) whole left r ⌝ }
+{
+    let mut once = 0;
+    let mut twice = 0;
+    let mut thrice = 0;
+    let mut at = 0;
+    while at < words.len() {
+        let word = words[at];
+        at += 1;
+        if !is_usable(word, whole, left) {
+            continue;
+        }
+        thrice = thrice | (twice & word);
+        twice = twice | (once & word);
+        once = once | word;
+    }
+    Tally {
+        once,
+        twice,
+        thrice,
+    }
+}
+
+// The highest of some activities.
+fn highest_of(activities: u32) -> u32
+    requires { ⌜ 0 < activities ⌝ }
+    ensures { λ r. ⌜ (r < 32) × (has activities r ≡ 1) ⌝ }
+{
+    31 - u32::leading_zeros(activities)
+}
+
+// The activity to cover next: one that the fewest words can cover. Where no word can cover some activity, the search ends here.
+fn choose(words: &[u32], whole: u32, left: u32) -> Choice
+    requires { ⌜ 0 < left ⌝ }
+    ensures { λ r. ⌜ Chosen (now (words .entry)) whole left r ⌝ }
+{
+    let tally = tally_of(words, whole, left);
+    if tally.once != left {
+        return Choice::Uncoverable;
+    }
+    if tally.twice != left {
+        return Choice::Activity(highest_of(left - tally.twice));
+    }
+    if tally.thrice != left {
+        return Choice::Activity(highest_of(left - tally.thrice));
+    }
+    Choice::Activity(highest_of(left))
+}
+
+// Whether words other than the whole cover what is left of it, each activity once. Each call leaves fewer activities uncovered.
+fn is_covered(words: &[u32], whole: u32, left: u32) -> bool
+    requires { ⌜ Listable (now words) ⌝ }
+    ensures { λ r. ⌜ (r ≡ true) ↔ Cover (now (words .entry)) whole left ⌝ }
+{
+    if left < 65536 {
+        return left == 0;
+    }
+    if left % 65536 == 0 {
+        return false;
+    }
+    let Choice::Activity(activity) = choose(words, whole, left) else {
+        return false;
+    };
+    let mut at = 0;
+    while at < words.len() {
+        let word = words[at];
+        at += 1;
+        if (word >> activity) % 2 == 0 {
+            continue;
+        }
+        if !is_usable(word, whole, left) {
+            continue;
+        }
+        if is_covered(words, whole, left - word) {
+            return true;
+        }
+    }
+    false
+}
+
+// Whether a place of a list is the union of two or more others that do not overlap.
+pub fn is_redundant(words: &[u32], whole: u32) -> bool
+    requires { ⌜ Listable (now words) × (placeUnder mostActivities (placeOf whole) ≡ true) ⌝ }
+    ensures { λ r. ⌜ r ≡ redundant (now (words .entry)) whole ⌝ }
+{
+    is_covered(words, whole, whole)
+}

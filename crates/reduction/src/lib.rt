@@ -1,0 +1,65 @@
+// Removing redundant places from a list: document 01, "Thinning and writing", where it is called thinning.
+ghost use mathlib.Core.Path.{_≡_};
+ghost use Prim.Native.Nat.{_≤_};
+ghost use lib.ListN.{length};
+ghost use Rattle.foundation.specs.Buffers.{overwrite};
+ghost use Rattle.redundancy.specs.Cover.{Listable};
+ghost use Rattle.redundancy.specs.Reduction.{reducedWords, reduced, reducedAfter};
+use crate::cover::is_redundant;
+use limits::Refusal;
+use places::list::first_invalid;
+use redundancy::Reduced;
+
+mod cover; // cover.rt: whether a place is a union, by a search for an exact cover
+
+// What the words that can be the next part of a cover say of the activities that are left.
+pub struct Tally {
+    // the activities that at least one of the words has
+    pub once: u32,
+    // those that at least two have
+    pub twice: u32,
+    // those that at least three have
+    pub thrice: u32,
+}
+
+// Which activity is covered next.
+pub enum Choice {
+    Activity(u32),
+    // some activity is in no word that can be the next part
+    Uncoverable,
+}
+
+// The words of a list whose places are not redundant, in their order, written from the front of a buffer that is at least as long.
+fn keep_irredundant(words: &[u32], kept: &mut [u32]) -> usize
+    requires { ⌜ Listable (now words) × (length (now words) ≤ length (now kept)) ⌝ }
+    ensures count { λ r. ⌜ r ≡ length (reducedWords (now (words .entry))) ⌝ }
+    ensures list { λ _. ⌜ now (kept .exit) ≡ overwrite (reducedWords (now (words .entry))) (now (kept .entry)) ⌝ }
+{
+    let mut count = 0;
+    let mut at = 0;
+    while at < words.len() {
+        let word = words[at];
+        at += 1;
+        if is_redundant(words, word) {
+            continue;
+        }
+        kept[count] = word;
+        count += 1;
+    }
+    count
+}
+
+// Writes the words of a list whose places are not redundant into a second buffer, in their order, and answers how many they are.
+pub fn reduce(words: &[u32], kept: &mut [u32]) -> Reduced
+    ensures answer { λ r. ⌜ r ≡ reduced (now (words .entry)) (length (now (kept .entry))) ⌝ }
+    ensures list { λ _. ⌜ now (kept .exit) ≡ reducedAfter (now (words .entry)) (now (kept .entry)) ⌝ }
+{
+    let invalid = first_invalid(words);
+    if invalid < words.len() {
+        return Reduced::Refused(Refusal::InvalidPlace { index: invalid });
+    }
+    if kept.len() < words.len() {
+        return Reduced::Refused(Refusal::BufferTooSmall);
+    }
+    Reduced::Kept(keep_irredundant(words, kept))
+}
