@@ -1,0 +1,9 @@
+-- One name for all definitions of this layer and of those below it: a proof by computation says `unfolding opened`.
+-- Assumes nothing.
+use Rattle.candidate_search.proofs.Opened.{opened as opened-search}
+use Rattle.redundancy.proofs.Opened.{opened as opened-redundancy}
+use Rattle.listing.specs.Listing.{foundIn, listingOf, keptOf, searched, rejectedLeft, foundLeft, keptLeft, listing}
+
+unfoldable pub opened : Unit {0}
+unfolding foundIn listingOf keptOf searched rejectedLeft foundLeft keptLeft listing opened-search opened-redundancy
+opened = tt

@@ -1,0 +1,59 @@
+-- What follows the answer of the search: a refusal and a run that stopped are handed on, with the further buffer as it was; what a completed run found is
+-- reduced into that buffer.
+-- Assumes nothing.
+use Prim.Native.Nat.{ℕ, _≤_}
+use mathlib.Core.Path.{_≡_, sym, ap, ap₂, _∙_}
+use mathlib.Core.List.{List}
+use borrow.Author.Tests.{eq-eqb, ne-eqb}
+use lib.ListN.{length}
+use Rattle.limits.specs.declared.Refusal.{Refusal}
+use Rattle.limits.specs.declared.Settings.{Settings}
+use Rattle.candidate_search.specs.declared.Discovered.{Discovered}
+use Rattle.candidate_search.specs.declared.Discovered.the-variants as Answered
+use Rattle.candidate_search.specs.declared.Run.{Run}
+use Rattle.candidate_search.specs.Discovery.{discovered, capacityOf, foundAfter, rejectedAfter}
+use Rattle.candidate_search.proofs.laws.AnswerLaws.{answer-within}
+use Rattle.redundancy.specs.declared.Reduced.{Reduced}
+use Rattle.redundancy.specs.Reduction.{reduced, reducedAfter}
+use Rattle.listing.specs.declared.Listing.{Listing}
+use Rattle.listing.specs.declared.Listing.the-variants.{Refused, Incomplete, Complete}
+use Rattle.listing.specs.Listing.{Lent, foundIn, listingOf, keptOf, searched, rejectedLeft, foundLeft, keptLeft, listing, GoesAsWritten}
+
+module _ (s : Settings) (text : List ℕ) (lent : Lent) where
+  -- what the search answered and left is what it is to
+  pub record Searched (d : Discovered) (rejected found : List ℕ) : Type 0 where
+    pub answers : d ≡ discovered s text (capacityOf (lent .rejected) (lent .found) (lent .budget))
+    pub rejects : rejected ≡ rejectedAfter s text (lent .rejected) (lent .found) (lent .budget)
+    pub finds : found ≡ foundAfter s text (lent .rejected) (lent .found) (lent .budget)
+
+module _ {s : Settings} {text : List ℕ} {lent : Lent} {d : Discovered} {rejected found : List ℕ} (h : Searched s text lent d rejected found) where
+  returned : (answer : Listing) (kept : List ℕ) → answer ≡ listingOf d found (length (lent .kept)) → kept ≡ keptOf d found (lent .kept)
+      → GoesAsWritten s text lent answer rejected found kept
+  unfolding searched rejectedLeft foundLeft keptLeft listing
+  returned answer kept e f =
+      record {
+        answers = e ∙ ap₂ (λ (x : Discovered) (l : List ℕ). listingOf x l (length (lent .kept))) (h .answers) (h .finds);
+        leaves-rejected = h .rejects;
+        leaves-found = h .finds;
+        leaves-kept = f ∙ ap₂ (λ (x : Discovered) (l : List ℕ). keptOf x l (lent .kept)) (h .answers) (h .finds);
+      }
+
+  pub search-refused : (r : Refusal) → d ≡ Answered.Refused r → GoesAsWritten s text lent (Refused r) rejected found (lent .kept)
+  unfolding listingOf keptOf
+  search-refused r e = returned (Refused r) (lent .kept) (rw e) (rw e)
+
+  pub search-stopped : (run : Run) → d ≡ Answered.Ran run → (run .end ≡ 0 → ⊥) → GoesAsWritten s text lent (Incomplete run) rejected found (lent .kept)
+  unfolding listingOf keptOf
+  search-stopped run e stopped = returned (Incomplete run) (lent .kept) (rw (e, ne-eqb (run .end) 0 stopped)) (rw (e, ne-eqb (run .end) 0 stopped))
+
+  pub search-completed : (run : Run) → d ≡ Answered.Ran run → run .end ≡ 0 → (answer : Reduced) (kept : List ℕ)
+      → answer ≡ reduced (foundIn run found) (length (lent .kept)) → kept ≡ reducedAfter (foundIn run found) (lent .kept)
+      → GoesAsWritten s text lent (Complete run answer) rejected found kept
+  unfolding listingOf keptOf
+  search-completed run e ended answer kept a k =
+      returned (Complete run answer) kept (rw (e, eq-eqb (run .end) 0 ended) (ap (Complete run) a)) (rw (e, eq-eqb (run .end) 0 ended) k)
+
+  -- the words that a run found are in its list
+  pub found-there : (run : Run) → d ≡ Answered.Ran run → run .found ≤ length (lent .found)
+  unfolding capacityOf
+  found-there run e = answer-within s text (capacityOf (lent .rejected) (lent .found) (lent .budget)) run (sym (h .answers) ∙ e) .found-fits

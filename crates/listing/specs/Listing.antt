@@ -1,0 +1,69 @@
+-- A run and, after a completed one, the reduction of what it found: what both answer, and what the lent buffers hold on return, refusals included.
+-- Document 01, the words of demand 3: after a completed run, thinning is lent what was listed, as the run left it, with a second buffer.
+-- Assumes nothing.
+use Prim.Native.Nat.{ℕ}
+use mathlib.Core.Path.{_≡_}
+use mathlib.Core.Bool.{cond}
+use mathlib.Core.List.{List}
+use lib.Dec.{eqb}
+use lib.ListN.{length, take}
+use Rattle.limits.specs.declared.Settings.{Settings}
+use Rattle.candidate_search.specs.declared.Discovered.{Discovered}
+use Rattle.candidate_search.specs.declared.Discovered.the-variants as Answered
+use Rattle.candidate_search.specs.declared.Run.{Run}
+use Rattle.candidate_search.specs.Discovery.{discovered, capacityOf, foundAfter, rejectedAfter}
+use Rattle.redundancy.specs.Reduction.{reduced, reducedAfter}
+use Rattle.listing.specs.declared.Listing.{Listing}
+use Rattle.listing.specs.declared.Listing.the-variants.{Refused, Incomplete, Complete}
+
+-- what is lent: the cache of rejected places (shelf), the list, the buffer for the reduced list, each with what it holds, and the replay budget
+-- (allowance)
+pub record Lent : Type 0 where
+  pub rejected : List ℕ
+  pub found : List ℕ
+  pub kept : List ℕ
+  pub budget : ℕ
+
+abbrev pub lentOf : List ℕ → List ℕ → List ℕ → ℕ → Lent
+lentOf rejected found kept budget = record { rejected = rejected; found = found; kept = kept; budget = budget }
+
+-- what a run found (listed), in its list as it left it: the first words, as many as it answers
+unfoldable pub foundIn : Run → List ℕ → List ℕ
+foundIn run found = take (run .found) found
+
+-- what is answered once the search has answered and left its list so, with a second buffer of that many words
+unfoldable pub listingOf : Discovered → List ℕ → ℕ → Listing
+listingOf (Answered.Refused refusal) found room = Refused refusal
+listingOf (Answered.Ran run) found room =
+    cond (eqb (run .end) 0) (Complete run (reduced (foundIn run found) room)) (Incomplete run)
+
+-- what the second buffer then holds
+unfoldable pub keptOf : Discovered → List ℕ → List ℕ → List ℕ
+keptOf (Answered.Refused refusal) found kept = kept
+keptOf (Answered.Ran run) found kept = cond (eqb (run .end) 0) (reducedAfter (foundIn run found) kept) kept
+
+module _ (s : Settings) (text : List ℕ) (lent : Lent) where
+  -- the search's own answer
+  unfoldable pub searched : Discovered
+  searched = discovered s text (capacityOf (lent .rejected) (lent .found) (lent .budget))
+
+  -- the cache, the list and the second buffer on return
+  unfoldable pub rejectedLeft : List ℕ
+  rejectedLeft = rejectedAfter s text (lent .rejected) (lent .found) (lent .budget)
+
+  unfoldable pub foundLeft : List ℕ
+  foundLeft = foundAfter s text (lent .rejected) (lent .found) (lent .budget)
+
+  unfoldable pub keptLeft : List ℕ
+  keptLeft = keptOf searched foundLeft (lent .kept)
+
+  -- the answer
+  unfoldable pub listing : Listing
+  listing = listingOf searched foundLeft (length (lent .kept))
+
+  -- a call goes as written: its answer and what it leaves in the three buffers
+  pub record GoesAsWritten (answer : Listing) (rejected found kept : List ℕ) : Type 0 where
+    pub answers : answer ≡ listing
+    pub leaves-rejected : rejected ≡ rejectedLeft
+    pub leaves-found : found ≡ foundLeft
+    pub leaves-kept : kept ≡ keptLeft
