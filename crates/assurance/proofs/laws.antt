@@ -1,0 +1,3 @@
+pub mod RunSeen
+pub mod ListedPlaces
+pub mod Demand3Holds

@@ -1,0 +1,109 @@
+-- Demand 3, in its own words: one claim about two runs on one log under the same settings and about both reductions. It speaks of what a caller
+-- sees: what was lent, what was answered, and what the buffers hold on return. Document 00, demand 3; document 01, the words of demand 3.
+-- Assumes nothing.
+use Prim.Native.Nat.{ℕ, _≤_}
+use mathlib.Core.Path.{_≡_}
+use mathlib.Core.Logic.{_↔_}
+use mathlib.Core.Bool.{true}
+use mathlib.Core.List.{List, _++_, map, List·Memᴰ}
+use mathlib.Core.Option.{Option, none, some}
+use lib.ListN.{length, take}
+use Rattle.foundation.specs.Lists.{Ordered}
+use Rattle.limits.specs.declared.Settings.{Settings}
+use Rattle.places.specs.declared.Place.{Place}
+use Rattle.places.specs.Places.{word, placeOf}
+use Rattle.places.specs.Order.{PlaceBefore}
+use Rattle.places.specs.Candidates.{candidate, candidates}
+use Rattle.candidate_search.specs.declared.Run.{Run}
+use Rattle.candidate_search.specs.TwoRuns.{fits, fittingCandidates}
+use Rattle.redundancy.specs.declared.Reduced.the-variants.{Kept}
+use Rattle.redundancy.specs.Unions.{UnionOf}
+use Rattle.redundancy.specs.Reduction.{reducedWords}
+use Rattle.listing.specs.declared.Listing.{Listing}
+use Rattle.listing.specs.declared.Listing.the-variants.{Refused, Incomplete, Complete}
+use Rattle.listing.specs.Listing.{Lent, foundIn, foundLeft, keptLeft, listing}
+
+-- one run and its reduction as a caller sees them: what was lent, the answer, and the list and the second buffer on return
+pub record Observed : Type 0 where
+  pub lent : Lent
+  pub answer : Listing
+  pub found : List ℕ
+  pub kept : List ℕ
+
+abbrev pub observed : Lent → Listing → List ℕ → List ℕ → Observed
+observed lent answer found kept = record { lent = lent; answer = answer; found = found; kept = kept }
+
+-- the run of an answer: a call of the search that is not refused
+unfoldable pub runOf : Listing → Option Run
+runOf (Refused refusal) = none
+runOf (Incomplete run) = some run
+runOf (Complete run reduced) = some run
+
+-- a run completes when it answers end 0
+abbrev pub Completed : Run → Type 0
+Completed run = run .end ≡ 0
+
+-- the second is lent a cache (shelf), a list and a replay budget (allowance) each at least as large as the first's
+pub record AtLeastAsLarge (first second : Lent) : Type 0 where
+  pub rejected : length (first .rejected) ≤ length (second .rejected)
+  pub found : length (first .found) ≤ length (second .found)
+  pub budget : first .budget ≤ second .budget
+
+-- words are exactly the fitting candidates: every through place within the size limits that is neither underfed nor overfed, each exactly once, in
+-- the stated order, and nothing else
+pub record ExactlyFitting (s : Settings) (text : List ℕ) (words : List ℕ) : Type 0 where
+  pub these : words ≡ map word (fittingCandidates s text)
+  pub exactly : (p : Place) → List·Memᴰ p (map placeOf words) ↔ ((candidate s p ≡ true) × (fits s text p ≡ true))
+  pub once : Ordered (λ (p q : Place). p ≡ q → ⊥) (map placeOf words)
+  pub in-order : Ordered PlaceBefore (map placeOf words)
+
+-- words are exactly the listed ones whose place is no union of two or more non-overlapping listed places, in that same order
+pub record ExactlyIrredundant (listed words : List ℕ) : Type 0 where
+  pub these : words ≡ reducedWords listed
+  pub exactly : (w : ℕ) → List·Memᴰ w words ↔ (List·Memᴰ w listed × (UnionOf listed (placeOf w) → ⊥))
+  pub in-order : Ordered PlaceBefore (map placeOf words)
+
+-- the reduction of what a completed run found, where the second buffer is at least as long: it answers how many words it kept, and they are the
+-- first ones of that buffer
+unfoldable pub ReducedTo : Observed → Run → Type 0
+ReducedTo o run =
+    let listed = foundIn run (o .found) in
+    length listed ≤ length (o .lent .kept)
+    → (count : ℕ) × (o .answer ≡ Complete run (Kept count)) × ExactlyIrredundant listed (take count (o .kept))
+
+-- a run completes if its list can take every fitting candidate and its budget is at least the number of candidates
+unfoldable pub AmpleCompletes : Settings → List ℕ → Lent → Run → Type 0
+AmpleCompletes s text lent run =
+    length (fittingCandidates s text) ≤ length (lent .found) → length (candidates s) ≤ lent .budget → Completed run
+
+module _ (s : Settings) (text : List ℕ) (first second : Observed) where
+  -- what follows if the first run completes
+  pub record IfFirstCompletes (run₁ run₂ : Run) : Type 0 where
+    pub second-completes : Completed run₂
+    pub no-more-replays : run₂ .replays ≤ run₁ .replays
+    pub no-more-visits : run₂ .visits ≤ run₁ .visits
+    pub first-listed : ExactlyFitting s text (foundIn run₁ (first .found))
+    pub second-listed : ExactlyFitting s text (foundIn run₂ (second .found))
+    pub first-reduced : ReducedTo first run₁
+    pub second-reduced : ReducedTo second run₂
+
+  -- the claim about two runs
+  pub record AnyTwoRuns (run₁ run₂ : Run) : Type 0 where
+    -- what the first listed is the beginning of what the second listed
+    pub beginning : (rest : List ℕ) × (foundIn run₂ (second .found) ≡ foundIn run₁ (first .found) ++ rest)
+    pub first-ample : AmpleCompletes s text (first .lent) run₁
+    pub second-ample : AmpleCompletes s text (second .lent) run₂
+    pub if-first-completes : Completed run₁ → IfFirstCompletes run₁ run₂
+
+  -- demand 3: take any two runs, the second with at least as much of everything
+  unfoldable pub Demand3 : Type 0
+  Demand3 =
+      (run₁ run₂ : Run)
+      → runOf (first .answer) ≡ some run₁
+      → runOf (second .answer) ≡ some run₂
+      → AtLeastAsLarge (first .lent) (second .lent)
+      → AnyTwoRuns run₁ run₂
+
+-- what a caller sees of a run and its reduction that go as written
+unfoldable pub asWritten : Settings → List ℕ → Lent → Observed
+asWritten s text lent = observed lent (listing s text lent) (foundLeft s text lent) (keptLeft s text lent)
