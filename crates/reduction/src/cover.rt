@@ -10,7 +10,9 @@ ghost use Rattle.places.specs.Places.{placeOf, placeUnder};
 ghost use Rattle.redundancy.specs.Cover.{Listable, usable, Cover};
 ghost use Rattle.redundancy.specs.Reduction.{redundant};
 ghost use Rattle.reduction.specs.Choosing.{Tallied, Chosen};
+ghost use Rattle.reduction.specs.Gathering.{GatheredAs};
 use crate::Choice;
+use crate::Gathered;
 use crate::Tally;
 
 // Whether a word can be the next part of what is left of a whole.
@@ -102,10 +104,36 @@ fn is_covered(words: &[u32], whole: u32, left: u32) -> bool
     false
 }
 
-// Whether a place of a list is the union of two or more others that do not overlap.
+// Writes the words that can be parts of a whole from the front of a buffer, as long as there is room.
+fn gather(words: &[u32], whole: u32, parts: &mut [u32]) -> Gathered
+    ensures { λ r. ⌜ GatheredAs (now (words .entry)) whole (now (parts .entry)) (now (parts .exit)) r ⌝ }
+{
+    let mut count = 0;
+    let mut at = 0;
+    while at < words.len() {
+        let word = words[at];
+        at += 1;
+        if !is_usable(word, whole, whole) {
+            continue;
+        }
+        if parts.len() <= count {
+            return Gathered::TooMany;
+        }
+        parts[count] = word;
+        count += 1;
+    }
+    Gathered::All(count)
+}
+
+// Whether a place of a list is the union of two or more others that do not overlap. The search goes over the list again and again, so it is given
+// only the words that matter, where they are not too many.
 pub fn is_redundant(words: &[u32], whole: u32) -> bool
     requires { ⌜ Listable (now words) × (placeUnder mostActivities (placeOf whole) ≡ true) ⌝ }
     ensures { λ r. ⌜ r ≡ redundant (now (words .entry)) whole ⌝ }
 {
-    is_covered(words, whole, whole)
+    let mut parts = [0u32; 512];
+    match gather(words, whole, &mut parts) {
+        Gathered::All(count) => is_covered(&parts[0..count], whole, whole),
+        Gathered::TooMany => is_covered(words, whole, whole),
+    }
 }

@@ -29,6 +29,12 @@ pub enum Choice {
     Uncoverable,
 }
 
+// Whether the words that can be parts of a place fitted a buffer, and how many they are.
+pub enum Gathered {
+    All(usize),
+    TooMany,
+}
+
 // The words of a list whose places are not redundant, in their order, written from the front of a buffer that is at least as long.
 fn keep_irredundant(words: &[u32], kept: &mut [u32]) -> usize
     requires { ⌜ Listable (now words) × (length (now words) ≤ length (now kept)) ⌝ }

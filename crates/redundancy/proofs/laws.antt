@@ -1,6 +1,7 @@
 pub mod NoUnion
 pub mod Parts
 pub mod Covers
+pub mod CoverParts
 pub mod Sharing
 pub mod PlaceWords
 pub mod Partitions

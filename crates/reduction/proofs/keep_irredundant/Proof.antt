@@ -1,18 +1,20 @@
 -- `reduction::keep_irredundant` meets its contract. The loop's invariant: the words before the index that are kept stand in front of the buffer. The
 -- measure is what is left of the words.
 -- Assumes nothing.
-use Prim.Native.Nat.{_-_, _<_}
+use Prim.Native.Nat.{ℕ, _-_, _<_}
 use native.Mathlib.Omega.{arith}
-use mathlib.Core.Path.{sym, _∙_}
+use mathlib.Core.Path.{sym, ap, _∙_}
+use mathlib.Core.Bool.{not}
 use lib.ListN.{length}
 use Rattle.foundation.proofs.laws.Members.{each-member, member-at}
 use Rattle.redundancy.specs.Cover.{Listable}
+use Rattle.redundancy.specs.Reduction.{redundant, reducedWords}
 use Rattle.reduction.proofs.laws.KeptWords.{KeptSo, none-kept, drop-next, keep-next, all-kept}
 use Rattle.reduction.proofs.keep_irredundant.Statement.{statement}
 use Rattle.reduction.proofs.keep_irredundant.Tie as tie
 
 abbrev Inv-loop : tie.InvT-loop
-Inv-loop words kept₀ count₀ at₀ kept count at = KeptSo words kept₀ kept count at
+Inv-loop words kept₀ count₀ at₀ kept count at = KeptSo (λ (w : ℕ). not (redundant words w)) words kept₀ kept count at
 
 abbrev μ-loop : tie.MeasureT-loop
 μ-loop words kept₀ count₀ at₀ kept count at = length words - at
@@ -31,6 +33,10 @@ one-more-fits c =
     let l = c .before .before .before .before in
     omega (arith, l .loop .inv .few, l .loop .inv .room, c .before .before .before .loop-test .taken, l .before .before .before .pre .1)
 
+returns : tie.Need-returns Inv-loop μ-loop
+unfolding reducedWords
+returns c = all-kept (c .before .loop .inv) (c .loop-test .left)
+
 pub keep-irredundant-spec : {M : Type 1} → statement M
 keep-irredundant-spec =
     tie.close
@@ -47,7 +53,7 @@ keep-irredundant-spec =
     drop-next
     (c .before .before .before .before .loop .inv)
     (c .before .before .before .loop-test .taken)
-    (sym (c .before .is-redundant .ensures) ∙ c .if1 .taken))  -- loop-again
+    (ap not (sym (c .before .is-redundant .ensures) ∙ c .if1 .taken)))  -- loop-again
     (λ c. omega (arith, one-more-fits c))  -- mul-kept
     one-more-fits  -- slice-write-kept
     (λ c. omega (arith, one-more-fits c))  -- add-count
@@ -56,7 +62,7 @@ keep-irredundant-spec =
     keep-next
     (c .before .before .before .before .loop .inv)
     (c .before .before .before .loop-test .taken)
-    (sym (c .before .is-redundant .ensures) ∙ c .if1 .left)
+    (ap not (sym (c .before .is-redundant .ensures) ∙ c .if1 .left))
     (one-more-fits c))  -- loop-again-2
     (λ c. c .before .loop .inv .room)  -- same-length
-    (λ c. all-kept (c .before .loop .inv) (c .loop-test .left)))
+    returns)

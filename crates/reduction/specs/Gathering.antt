@@ -1,0 +1,16 @@
+-- The words that can be parts of a place, gathered in a buffer: all of them from its front, or none of that where they are more than it takes.
+-- Assumes nothing.
+use Prim.Native.Nat.{ℕ, _<_}
+use mathlib.Core.Path.{_≡_}
+use mathlib.Core.List.{List}
+use lib.ListN.{length}
+use Rattle.foundation.specs.Buffers.{overwrite}
+use Rattle.redundancy.specs.Cover.{partsOf}
+use Rattle.reduction.specs.declared.Gathered.{Gathered}
+use Rattle.reduction.specs.declared.Gathered.the-variants.{All, TooMany}
+
+-- what the buffer held before and after, and the answer
+unfoldable pub GatheredAs : List ℕ → ℕ → List ℕ → List ℕ → Gathered → Type 0
+GatheredAs words whole before after (All count) =
+    (count ≡ length (partsOf words whole)) × (after ≡ overwrite (partsOf words whole) before)
+GatheredAs words whole before after TooMany = length before < length (partsOf words whole)
