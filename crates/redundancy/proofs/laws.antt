@@ -8,3 +8,4 @@ pub mod Partitions
 pub mod CoverChoices
 pub mod UnionTests
 pub mod Reducing
+pub mod Repeats

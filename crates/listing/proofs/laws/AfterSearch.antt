@@ -1,11 +1,12 @@
 -- What follows the answer of the search: a refusal and a run that stopped are handed on, with the further buffer as it was; what a completed run found is
 -- reduced into that buffer.
 -- Assumes nothing.
-use Prim.Native.Nat.{ℕ, _≤_}
+use Prim.Native.Nat.{ℕ, _-_, _≤_}
+use native.Mathlib.Nat.{sub-zero}
 use mathlib.Core.Path.{_≡_, sym, ap, ap₂, _∙_}
 use mathlib.Core.List.{List}
 use borrow.Author.Tests.{eq-eqb, ne-eqb}
-use lib.ListN.{length}
+use lib.ListN.{length, take}
 use Rattle.limits.specs.declared.Refusal.{Refusal}
 use Rattle.limits.specs.declared.Settings.{Settings}
 use Rattle.candidate_search.specs.declared.Discovered.{Discovered}
@@ -46,12 +47,19 @@ module _ {s : Settings} {text : List ℕ} {lent : Lent} {d : Discovered} {reject
   unfolding listingOf keptOf
   search-stopped run e stopped = returned (Incomplete run) (lent .kept) (rw (e, ne-eqb (run .end) 0 stopped)) (rw (e, ne-eqb (run .end) 0 stopped))
 
+  -- the reduction is handed the first words of the list, as many as were found
   pub search-completed : (run : Run) → d ≡ Answered.Ran run → run .end ≡ 0 → (answer : Reduced) (kept : List ℕ)
-      → answer ≡ reduced (foundIn run found) (length (lent .kept)) → kept ≡ reducedAfter (foundIn run found) (lent .kept)
+      → answer ≡ reduced (take (run .found - 0) found) (length (lent .kept)) → kept ≡ reducedAfter (take (run .found - 0) found) (lent .kept)
       → GoesAsWritten s text lent (Complete run answer) rejected found kept
-  unfolding listingOf keptOf
+  unfolding listingOf keptOf foundIn
   search-completed run e ended answer kept a k =
-      returned (Complete run answer) kept (rw (e, eq-eqb (run .end) 0 ended) (ap (Complete run) a)) (rw (e, eq-eqb (run .end) 0 ended) k)
+      let all = ap (λ (n : ℕ). take n found) (sub-zero (run .found)) in
+      let completed = eq-eqb (run .end) 0 ended in
+      returned
+      (Complete run answer)
+      kept
+      (rw (e, completed) (ap (Complete run) (a ∙ ap (λ (words : List ℕ). reduced words (length (lent .kept))) all)))
+      (rw (e, completed) (k ∙ ap (λ (words : List ℕ). reducedAfter words (lent .kept)) all))
 
   -- the words that a run found are in its list
   pub found-there : (run : Run) → d ≡ Answered.Ran run → run .found ≤ length (lent .found)

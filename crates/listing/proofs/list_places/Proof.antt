@@ -1,9 +1,8 @@
 -- `listing::list_places` meets its contract: what the search answers and leaves is handed on, and what a completed run found is reduced.
 -- Assumes nothing.
-use native.Mathlib.Nat.{sub-zero}
 use native.Mathlib.Omega.{arith}
 use borrow.Author.Needs.{needs}
-use Rattle.listing.specs.Listing.{lentOf, foundIn}
+use Rattle.listing.specs.Listing.{lentOf}
 use Rattle.listing.proofs.laws.AfterSearch.{Searched, search-refused, search-stopped, search-completed, found-there}
 use Rattle.listing.proofs.list_places.Statement.{statement}
 use Rattle.listing.proofs.list_places.Tie as tie
@@ -21,14 +20,13 @@ after-search : (c : tie.After-discover)
 after-search c = record { answers = c .discover .ensures .0; rejects = c .discover .ensures .1 .0; finds = c .discover .ensures .1 .1 }
 
 returns-3 : tie.Need-returns-3
-unfolding foundIn
 returns-3 c =
     let e = c .before .before .before .before .before .before in
     let r = e .before .before .before in
-    let reduction = rw (sub-zero (r .run .given .0 .0 .found)) at (c .before .before .reduce .ensures) in
+    let reduction = c .before .before .reduce .ensures in
     search-completed
     (after-search (r .before .before .before .before .before .before))
-    _
+    (r .run .given .0 .0)
     (r .run .given .1)
     (e .if1 .left)
     _

@@ -5,11 +5,11 @@ use Prim.Native.Nat.{_-_, _≤_}
 use native.Mathlib.Omega.{arith}
 use mathlib.Core.Path.{_≡_, refl, sym, ap, _∙_}
 use borrow.Author.Needs.{needs}
-use borrow.Author.Tests.{not-true, not-false, lt-ltb, le-ltb}
+use borrow.Author.Tests.{not-true, not-false}
 use lib.ListN.{length, drop}
 use Rattle.limits.specs.Settings.{mostActivities}
 use Rattle.places.specs.Places.{placeUnder, wordsFault}
-use Rattle.places.proofs.laws.ListFaults.{fault-here, fault-later, no-fault}
+use Rattle.places.proofs.laws.ListFaults.{fault-later, fault-found, none-found}
 use Rattle.places.proofs.list.first_invalid.Statement.{statement}
 use Rattle.places.proofs.list.first_invalid.Tie as tie
 
@@ -23,10 +23,8 @@ returns : tie.Need-returns Inv-loop μ-loop
 returns c =
     let l = c .before .before .before .before .before in
     let on = c .before .before .before .before .loop-test .taken in
-    let bad = sym (c .before .place-under .ensures ∙ ap (placeUnder mostActivities) (c .before .before .place-of .ensures)) ∙ not-true _ (c .if1 .taken) in (
-      omega (arith, on),
-      sym (l .loop .inv .1) ∙ fault-here (l .before .before .args .words .now) (l .loop .at) on bad ∙ rw (lt-ltb _ _ on) refl,
-    )
+    let bad = sym (c .before .place-under .ensures ∙ ap (placeUnder mostActivities) (c .before .before .place-of .ensures)) ∙ not-true _ (c .if1 .taken) in
+    (omega (arith, on), fault-found (l .before .before .args .words .now) (l .loop .at) (l .loop .inv .1) on bad)
 
 loop-again : tie.Need-loop-again Inv-loop μ-loop
 loop-again c =
@@ -38,12 +36,7 @@ loop-again c =
 returns-2 : tie.Need-returns-2 Inv-loop μ-loop
 returns-2 c =
     let l = c .before in
-    let words = l .before .before .args .words .now in (
-      l .loop .inv .0,
-      sym (l .loop .inv .1)
-          ∙ no-fault words (l .loop .at) (omega (arith, c .loop-test .left))
-          ∙ rw (le-ltb (l .loop .at) (length words) (omega (arith, c .loop-test .left))) refl,
-    )
+    (l .loop .inv .0, none-found (l .before .before .args .words .now) (l .loop .at) (l .loop .inv .1) (c .loop-test .left))
 
 pub first-invalid-spec : {M : Type 1} → statement M
 first-invalid-spec =

@@ -1,14 +1,27 @@
 -- `reduction::cover::is_usable` meets its contract: both tests are those of the definition.
 -- Assumes nothing.
+use Prim.Native.Nat.{ℕ}
+use mathlib.Core.Path.{_≡_}
+use mathlib.Core.Bool.{not}
 use borrow.Author.Tests.{eq-eqb, ne-eqb}
+use lib.Bits.{bitAnd}
+use lib.Dec.{eqb}
 use Rattle.redundancy.specs.Cover.{usable}
 use Rattle.reduction.proofs.cover.is_usable.Statement.{statement}
 use Rattle.reduction.proofs.cover.is_usable.Tie as tie
 
-pub is-usable-spec : {M : Type 1} → statement M
+-- of a word whose activities are all left the other test decides, and else the first one
+second-decides : (whole left w : ℕ) → bitAnd w left ≡ w → not (eqb w whole) ≡ usable whole left w
 unfolding usable
+second-decides whole left w e = rw (eq-eqb (bitAnd w left) w e)
+
+first-decides : (whole left w : ℕ) → (bitAnd w left ≡ w → ⊥) → eqb (bitAnd w left) w ≡ usable whole left w
+unfolding usable
+first-decides whole left w differ = rw (ne-eqb (bitAnd w left) w differ)
+
+pub is-usable-spec : {M : Type 1} → statement M
 is-usable-spec =
     tie.close
     (tie.spec
-    (λ c. rw (eq-eqb _ _ (c .if1 .taken)))
-    (λ c. rw (ne-eqb _ _ (c .if1 .left))))
+    (λ c. let a = c .before .args in second-decides (a .whole) (a .left) (a .word) (c .if1 .taken))
+    (λ c. let a = c .before .args in first-decides (a .whole) (a .left) (a .word) (c .if1 .left)))
