@@ -7,15 +7,13 @@ ghost use Rattle.discovery.specs.Rulings.{rulingOf};
 use crate::Ruling;
 use candidate_order::is_lighter;
 use places::Place;
+use places::place_of;
 
 // The place of a word.
 fn place_in(word: u64) -> Place
     ensures { λ r. ⌜ r ≡ placeIn word ⌝ }
 {
-    Place {
-        inputs: (word % 65536) as u16,
-        outputs: (word / 65536 % 65536) as u16,
-    }
+    place_of((word % 4294967296) as u32)
 }
 
 // Whether a word is marked as underfed, alone or with overfed.
