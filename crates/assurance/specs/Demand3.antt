@@ -21,17 +21,17 @@ use Rattle.redundancy.specs.Unions.{UnionOf}
 use Rattle.redundancy.specs.Reduction.{reducedWords}
 use Rattle.listing.specs.declared.Listing.{Listing}
 use Rattle.listing.specs.declared.Listing.the-variants.{Refused, Incomplete, Complete}
-use Rattle.listing.specs.Listing.{Lent, foundIn, foundLeft, keptLeft, listing}
+use Rattle.listing.specs.Listing.{Resources, foundIn, foundLeft, keptLeft, listing}
 
 -- one run and its reduction as a caller sees them: what was lent, the answer, and the list and the second buffer on return
 pub record Observed : Type 0 where
-  pub lent : Lent
+  pub resources : Resources
   pub answer : Listing
   pub found : List ℕ
   pub kept : List ℕ
 
-abbrev pub observed : Lent → Listing → List ℕ → List ℕ → Observed
-observed lent answer found kept = record { lent = lent; answer = answer; found = found; kept = kept }
+abbrev pub observed : Resources → Listing → List ℕ → List ℕ → Observed
+observed resources answer found kept = record { resources = resources; answer = answer; found = found; kept = kept }
 
 -- the run of an answer: a call of the search that is not refused
 unfoldable pub runOf : Listing → Option Run
@@ -43,8 +43,8 @@ runOf (Complete run reduced) = some run
 abbrev pub Completed : Run → Type 0
 Completed run = run .end ≡ 0
 
--- the second is lent a cache (shelf), a list and a replay budget (allowance) each at least as large as the first's
-pub record AtLeastAsLarge (first second : Lent) : Type 0 where
+-- a cache (shelf), a list and a replay budget (allowance) each at least as large as the first's
+pub record AtLeastAsLarge (first second : Resources) : Type 0 where
   pub rejected : length (first .rejected) ≤ length (second .rejected)
   pub found : length (first .found) ≤ length (second .found)
   pub budget : first .budget ≤ second .budget
@@ -68,22 +68,25 @@ pub record ExactlyIrredundant (listed words : List ℕ) : Type 0 where
 unfoldable pub ReducedTo : Observed → Run → Type 0
 ReducedTo o run =
     let listed = foundIn run (o .found) in
-    length listed ≤ length (o .lent .kept)
+    length listed ≤ length (o .resources .kept)
     → (count : ℕ) × (o .answer ≡ Complete run (Kept count)) × ExactlyIrredundant listed (take count (o .kept))
 
 -- a run completes if its list can take every fitting candidate and its budget is at least the number of candidates
-unfoldable pub AmpleCompletes : Settings → List ℕ → Lent → Run → Type 0
-AmpleCompletes s text lent run =
-    length (fittingCandidates s text) ≤ length (lent .found) → length (candidates s) ≤ lent .budget → Completed run
+unfoldable pub AmpleCompletes : Settings → List ℕ → Resources → Run → Type 0
+AmpleCompletes s text resources run =
+    length (fittingCandidates s text) ≤ length (resources .found) → length (candidates s) ≤ resources .budget → Completed run
 
 module _ (s : Settings) (text : List ℕ) (first second : Observed) where
   -- what follows if the first run completes
   pub record IfFirstCompletes (run₁ run₂ : Run) : Type 0 where
+    -- so does the second, with no more replays and no more visits
     pub second-completes : Completed run₂
     pub no-more-replays : run₂ .replays ≤ run₁ .replays
     pub no-more-visits : run₂ .visits ≤ run₁ .visits
+    -- what each listed is then exactly the fitting candidates
     pub first-listed : ExactlyFitting s text (foundIn run₁ (first .found))
     pub second-listed : ExactlyFitting s text (foundIn run₂ (second .found))
+    -- both reduced lists are exactly the listed places that are no union
     pub first-reduced : ReducedTo first run₁
     pub second-reduced : ReducedTo second run₂
 
@@ -91,19 +94,21 @@ module _ (s : Settings) (text : List ℕ) (first second : Observed) where
   pub record AnyTwoRuns (run₁ run₂ : Run) : Type 0 where
     -- what the first listed is the beginning of what the second listed
     pub beginning : (rest : List ℕ) × (foundIn run₂ (second .found) ≡ foundIn run₁ (first .found) ++ rest)
-    pub first-ample : AmpleCompletes s text (first .lent) run₁
-    pub second-ample : AmpleCompletes s text (second .lent) run₂
+    -- whatever its cache, a run completes if its list and its budget are large enough
+    pub first-ample : AmpleCompletes s text (first .resources) run₁
+    pub second-ample : AmpleCompletes s text (second .resources) run₂
+    -- if the first completes
     pub if-first-completes : Completed run₁ → IfFirstCompletes run₁ run₂
 
-  -- demand 3: take any two runs, the second with at least as much of everything
+  -- demand 3: take any two runs, the second with a cache, a list and a budget each at least as large as the first's
   unfoldable pub Demand3 : Type 0
   Demand3 =
       (run₁ run₂ : Run)
       → runOf (first .answer) ≡ some run₁
       → runOf (second .answer) ≡ some run₂
-      → AtLeastAsLarge (first .lent) (second .lent)
+      → AtLeastAsLarge (first .resources) (second .resources)
       → AnyTwoRuns run₁ run₂
 
 -- what a caller sees of a run and its reduction that go as written
-unfoldable pub asWritten : Settings → List ℕ → Lent → Observed
-asWritten s text lent = observed lent (listing s text lent) (foundLeft s text lent) (keptLeft s text lent)
+unfoldable pub asWritten : Settings → List ℕ → Resources → Observed
+asWritten s text resources = observed resources (listing s text resources) (foundLeft s text resources) (keptLeft s text resources)

@@ -1,5 +1,5 @@
 // Demand 3 of the written demands, on the calls themselves: any two runs on one log under the same settings, and both reductions.
-ghost use Rattle.listing.specs.Listing.{lentOf, GoesAsWritten};
+ghost use Rattle.listing.specs.Listing.{resourcesOf, GoesAsWritten};
 ghost use Rattle.assurance.specs.Demand3.{observed, Demand3};
 use limits::Settings;
 use listing::Listing;
@@ -26,17 +26,17 @@ pub fn list_twice(
     kept2: &mut [u32],
 ) -> BothListings
     ensures first { λ r. ⌜ GoesAsWritten settings (now (text .entry))
-        (lentOf (now (rejected1 .entry)) (now (found1 .entry)) (now (kept1 .entry)) budget1)
+        (resourcesOf (now (rejected1 .entry)) (now (found1 .entry)) (now (kept1 .entry)) budget1)
         (r .first) (now (rejected1 .exit)) (now (found1 .exit)) (now (kept1 .exit)) ⌝ }
     ensures second { λ r. ⌜ GoesAsWritten settings (now (text .entry))
-        (lentOf (now (rejected2 .entry)) (now (found2 .entry)) (now (kept2 .entry)) budget2)
+        (resourcesOf (now (rejected2 .entry)) (now (found2 .entry)) (now (kept2 .entry)) budget2)
         (r .second) (now (rejected2 .exit)) (now (found2 .exit)) (now (kept2 .exit)) ⌝ }
     ensures demand3 { λ r. ⌜ Demand3 settings (now (text .entry))
         (observed
-        (lentOf (now (rejected1 .entry)) (now (found1 .entry)) (now (kept1 .entry)) budget1)
+        (resourcesOf (now (rejected1 .entry)) (now (found1 .entry)) (now (kept1 .entry)) budget1)
         (r .first) (now (found1 .exit)) (now (kept1 .exit)))
         (observed
-        (lentOf (now (rejected2 .entry)) (now (found2 .entry)) (now (kept2 .entry)) budget2)
+        (resourcesOf (now (rejected2 .entry)) (now (found2 .entry)) (now (kept2 .entry)) budget2)
         (r .second) (now (found2 .exit)) (now (kept2 .exit))) ⌝ }
 {
     let first = list_places(settings, text, budget1, rejected1, found1, kept1);

@@ -1,4 +1,4 @@
--- A run and, after a completed one, the reduction of what it found: what both answer, and what the lent buffers hold on return, refusals included.
+-- A run and, after a completed one, the reduction of what it found: what both answer, and what the buffers hold on return, refusals included.
 -- Document 01, the words of demand 3: after a completed run, thinning is lent what was listed, as the run left it, with a second buffer.
 -- Assumes nothing.
 use Prim.Native.Nat.{ℕ}
@@ -16,16 +16,16 @@ use Rattle.redundancy.specs.Reduction.{reduced, reducedAfter}
 use Rattle.listing.specs.declared.Listing.{Listing}
 use Rattle.listing.specs.declared.Listing.the-variants.{Refused, Incomplete, Complete}
 
--- what is lent: the cache of rejected places (shelf), the list, the buffer for the reduced list, each with what it holds, and the replay budget
+-- what a call is given to work with: the cache of rejected places (shelf), the list, the buffer for the reduced list, each with what it holds, and the replay budget
 -- (allowance)
-pub record Lent : Type 0 where
+pub record Resources : Type 0 where
   pub rejected : List ℕ
   pub found : List ℕ
   pub kept : List ℕ
   pub budget : ℕ
 
-abbrev pub lentOf : List ℕ → List ℕ → List ℕ → ℕ → Lent
-lentOf rejected found kept budget = record { rejected = rejected; found = found; kept = kept; budget = budget }
+abbrev pub resourcesOf : List ℕ → List ℕ → List ℕ → ℕ → Resources
+resourcesOf rejected found kept budget = record { rejected = rejected; found = found; kept = kept; budget = budget }
 
 -- what a run found (listed), in its list as it left it: the first words, as many as it answers
 unfoldable pub foundIn : Run → List ℕ → List ℕ
@@ -42,24 +42,24 @@ unfoldable pub keptOf : Discovered → List ℕ → List ℕ → List ℕ
 keptOf (Answered.Refused refusal) found kept = kept
 keptOf (Answered.Ran run) found kept = cond (eqb (run .end) 0) (reducedAfter (foundIn run found) kept) kept
 
-module _ (s : Settings) (text : List ℕ) (lent : Lent) where
+module _ (s : Settings) (text : List ℕ) (resources : Resources) where
   -- the search's own answer
   unfoldable pub searched : Discovered
-  searched = discovered s text (capacityOf (lent .rejected) (lent .found) (lent .budget))
+  searched = discovered s text (capacityOf (resources .rejected) (resources .found) (resources .budget))
 
   -- the cache, the list and the second buffer on return
   unfoldable pub rejectedLeft : List ℕ
-  rejectedLeft = rejectedAfter s text (lent .rejected) (lent .found) (lent .budget)
+  rejectedLeft = rejectedAfter s text (resources .rejected) (resources .found) (resources .budget)
 
   unfoldable pub foundLeft : List ℕ
-  foundLeft = foundAfter s text (lent .rejected) (lent .found) (lent .budget)
+  foundLeft = foundAfter s text (resources .rejected) (resources .found) (resources .budget)
 
   unfoldable pub keptLeft : List ℕ
-  keptLeft = keptOf searched foundLeft (lent .kept)
+  keptLeft = keptOf searched foundLeft (resources .kept)
 
   -- the answer
   unfoldable pub listing : Listing
-  listing = listingOf searched foundLeft (length (lent .kept))
+  listing = listingOf searched foundLeft (length (resources .kept))
 
   -- a call goes as written: its answer and what it leaves in the three buffers
   pub record GoesAsWritten (answer : Listing) (rejected found kept : List ℕ) : Type 0 where

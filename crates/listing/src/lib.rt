@@ -1,5 +1,5 @@
 // A run and, where it completes, the reduction of what it found: document 01, the words of demand 3.
-ghost use Rattle.listing.specs.Listing.{lentOf, GoesAsWritten};
+ghost use Rattle.listing.specs.Listing.{resourcesOf, GoesAsWritten};
 use candidate_search::Discovered;
 use candidate_search::Run;
 use discovery::discover;
@@ -27,7 +27,7 @@ pub fn list_places(
     kept: &mut [u32],
 ) -> Listing
     ensures { λ r. ⌜ GoesAsWritten settings (now (text .entry))
-        (lentOf (now (rejected .entry)) (now (found .entry)) (now (kept .entry)) budget)
+        (resourcesOf (now (rejected .entry)) (now (found .entry)) (now (kept .entry)) budget)
         r (now (rejected .exit)) (now (found .exit)) (now (kept .exit)) ⌝ }
 {
     match discover(settings, text, budget, rejected, found) {

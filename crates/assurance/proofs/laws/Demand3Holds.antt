@@ -14,31 +14,31 @@ use Rattle.candidate_search.proofs.laws.AnyTwoRuns.{two-runs}
 use Rattle.redundancy.specs.Reduction.{reducedWords}
 use Rattle.redundancy.proofs.laws.Reducing.{reduced-kept, kept-taken}
 use Rattle.listing.specs.declared.Listing.{Listing}
-use Rattle.listing.specs.Listing.{Lent, GoesAsWritten}
+use Rattle.listing.specs.Listing.{Resources, GoesAsWritten}
 use Rattle.assurance.specs.Demand3.{Completed, ExactlyFitting, ReducedTo, AmpleCompletes, IfFirstCompletes, AnyTwoRuns, Demand3, observed, asWritten}
 use Rattle.assurance.proofs.laws.RunSeen.{roomOf, at-least, madeRun, listedWords, answered, listed-found, listing-complete, kept-reduced}
 use Rattle.assurance.proofs.laws.ListedPlaces.{exactly-fitting, fitting-listable, exactly-irredundant}
 
 module _ (s : Settings) (text : List ℕ) (passes : runRefusal s text ≡ none) where
   -- the reduction of the fitting candidates that a completed run found
-  reduced-to : (handed : Lent) → Completed (madeRun s text handed) → ExactlyFitting s text (listedWords s text handed)
-      → ReducedTo (asWritten s text handed) (madeRun s text handed)
+  reduced-to : (resources : Resources) → Completed (madeRun s text resources) → ExactlyFitting s text (listedWords s text resources)
+      → ReducedTo (asWritten s text resources) (madeRun s text resources)
   unfolding ReducedTo asWritten
-  reduced-to handed complete fitting =
-      let words = listedWords s text handed in
+  reduced-to resources complete fitting =
+      let words = listedWords s text resources in
       let places = fitting-listable s text words (not-refused s text passes .settings .few-activities) fitting in
       λ enough. (
         length (reducedWords words),
-        rw (listing-complete s text handed passes complete, reduced-kept words places (length (handed .kept)) enough),
-        rw (kept-reduced s text handed passes complete, kept-taken words places (handed .kept) enough)
+        rw (listing-complete s text resources passes complete, reduced-kept words places (length (resources .kept)) enough),
+        rw (kept-reduced s text resources passes complete, kept-taken words places (resources .kept) enough)
             (exactly-irredundant words places (fitting .in-order)),
       )
 
-  module _ (first second : Lent) (claim : TwoRuns s text (roomOf first) (roomOf second)) where
-    all-listed : (handed : Lent) → FoundAll s text (roomOf handed) → ExactlyFitting s text (listedWords s text handed)
+  module _ (first second : Resources) (claim : TwoRuns s text (roomOf first) (roomOf second)) where
+    all-listed : (resources : Resources) → FoundAll s text (roomOf resources) → ExactlyFitting s text (listedWords s text resources)
     unfolding FoundAll
-    all-listed handed all =
-        exactly-fitting s text (listedWords s text handed) (listed-found s text handed passes ∙ all) (claim .all-fitting)
+    all-listed resources all =
+        exactly-fitting s text (listedWords s text resources) (listed-found s text resources passes ∙ all) (claim .all-fitting)
 
     both-complete : Completed (madeRun s text first)
         → IfFirstCompletes s text (asWritten s text first) (asWritten s text second) (madeRun s text first) (madeRun s text second)
@@ -67,7 +67,7 @@ module _ (s : Settings) (text : List ℕ) (passes : runRefusal s text ≡ none) 
           if-first-completes = both-complete;
         }
 
-pub demand-3 : (s : Settings) (text : List ℕ) (first second : Lent) → Demand3 s text (asWritten s text first) (asWritten s text second)
+pub demand-3 : (s : Settings) (text : List ℕ) (first second : Resources) → Demand3 s text (asWritten s text first) (asWritten s text second)
 unfolding Demand3 asWritten
 demand-3 s text first second run₁ run₂ e₁ e₂ more =
     let one = answered s text first run₁ e₁ in
@@ -76,15 +76,15 @@ demand-3 s text first second run₁ run₂ e₁ e₂ more =
     rw (one .1, two .1) (any-two-runs s text (one .0) first second claim)
 
 -- so it holds of calls that go as written
-seen : {s : Settings} {text : List ℕ} {lent : Lent} {answer : Listing} {rejected found kept : List ℕ}
-    → GoesAsWritten s text lent answer rejected found kept → observed lent answer found kept ≡ asWritten s text lent
+seen : {s : Settings} {text : List ℕ} {resources : Resources} {answer : Listing} {rejected found kept : List ℕ}
+    → GoesAsWritten s text resources answer rejected found kept → observed resources answer found kept ≡ asWritten s text resources
 unfolding asWritten
 seen goes = rw (goes .answers, goes .leaves-found, goes .leaves-kept)
 
-pub demand-3-seen : {s : Settings} {text : List ℕ} {lent₁ lent₂ : Lent} {answer₁ answer₂ : Listing}
+pub demand-3-seen : {s : Settings} {text : List ℕ} {resources₁ resources₂ : Resources} {answer₁ answer₂ : Listing}
     {rejected₁ rejected₂ found₁ found₂ kept₁ kept₂ : List ℕ}
-    → GoesAsWritten s text lent₁ answer₁ rejected₁ found₁ kept₁
-    → GoesAsWritten s text lent₂ answer₂ rejected₂ found₂ kept₂
-    → Demand3 s text (observed lent₁ answer₁ found₁ kept₁) (observed lent₂ answer₂ found₂ kept₂)
-demand-3-seen {s = s} {text = text} {lent₁ = lent₁} {lent₂ = lent₂} first second =
-    rw (seen first, seen second) (demand-3 s text lent₁ lent₂)
+    → GoesAsWritten s text resources₁ answer₁ rejected₁ found₁ kept₁
+    → GoesAsWritten s text resources₂ answer₂ rejected₂ found₂ kept₂
+    → Demand3 s text (observed resources₁ answer₁ found₁ kept₁) (observed resources₂ answer₂ found₂ kept₂)
+demand-3-seen {s = s} {text = text} {resources₁ = resources₁} {resources₂ = resources₂} first second =
+    rw (seen first, seen second) (demand-3 s text resources₁ resources₂)

@@ -21,14 +21,14 @@ use Rattle.candidate_search.specs.Discovery.{run, summary, runRefusal, discover
 use Rattle.candidate_search.specs.TwoRuns.{foundBy, AtLeast}
 use Rattle.redundancy.specs.Reduction.{reduced, reducedAfter}
 use Rattle.listing.specs.declared.Listing.the-variants.{Complete}
-use Rattle.listing.specs.Listing.{Lent, foundIn, listingOf, keptOf, searched, foundLeft, keptLeft, listing}
+use Rattle.listing.specs.Listing.{Resources, foundIn, listingOf, keptOf, searched, foundLeft, keptLeft, listing}
 use Rattle.assurance.specs.Demand3.{runOf, Completed, AtLeastAsLarge}
 
--- the capacity of a run that is handed these buffers and this budget
-abbrev pub roomOf : Lent → Capacity
-roomOf handed = capacityOf (handed .rejected) (handed .found) (handed .budget)
+-- the capacity of a run that is given these buffers and this budget
+abbrev pub roomOf : Resources → Capacity
+roomOf resources = capacityOf (resources .rejected) (resources .found) (resources .budget)
 
-pub at-least : (first second : Lent) → AtLeastAsLarge first second → AtLeast (roomOf first) (roomOf second)
+pub at-least : (first second : Resources) → AtLeastAsLarge first second → AtLeast (roomOf first) (roomOf second)
 unfolding capacityOf
 at-least first second more = record { rejected = more .rejected; found = more .found; budget = more .budget }
 
@@ -44,28 +44,28 @@ unfolding runOf listingOf
 run-own none x r found room e = (refl, cc (run-carried x found room))
 run-own (some refusal) x r found room e = impossible (cc)
 
-module _ (s : Settings) (text : List ℕ) (handed : Lent) where
+module _ (s : Settings) (text : List ℕ) (resources : Resources) where
   -- the run, and the words that the caller sees listed
   abbrev pub madeRun : Run
-  madeRun = summary (run s text (roomOf handed))
+  madeRun = summary (run s text (roomOf resources))
 
   abbrev pub listedWords : List ℕ
-  listedWords = foundIn madeRun (foundLeft s text handed)
+  listedWords = foundIn madeRun (foundLeft s text resources)
 
-  pub answered : (r : Run) → runOf (listing s text handed) ≡ some r → (runRefusal s text ≡ none) × (r ≡ madeRun)
+  pub answered : (r : Run) → runOf (listing s text resources) ≡ some r → (runRefusal s text ≡ none) × (r ≡ madeRun)
   unfolding listing searched discovered
-  answered r = run-own (runRefusal s text) madeRun r (foundLeft s text handed) (length (handed .kept))
+  answered r = run-own (runRefusal s text) madeRun r (foundLeft s text resources) (length (resources .kept))
 
   module _ (passes : runRefusal s text ≡ none) where
-    pub listed-found : listedWords ≡ foundBy s text (roomOf handed)
+    pub listed-found : listedWords ≡ foundBy s text (roomOf resources)
     unfolding foundIn foundLeft foundAfter foundBy summary
-    listed-found = rw passes (take-overwritten (handed .found) (foundBy s text (roomOf handed)))
+    listed-found = rw passes (take-overwritten (resources .found) (foundBy s text (roomOf resources)))
 
     module _ (complete : Completed madeRun) where
-      pub listing-complete : listing s text handed ≡ Complete madeRun (reduced listedWords (length (handed .kept)))
+      pub listing-complete : listing s text resources ≡ Complete madeRun (reduced listedWords (length (resources .kept)))
       unfolding listing searched discovered listingOf
       listing-complete = rw (passes, eq-eqb (madeRun .end) 0 complete)
 
-      pub kept-reduced : keptLeft s text handed ≡ reducedAfter listedWords (handed .kept)
+      pub kept-reduced : keptLeft s text resources ≡ reducedAfter listedWords (resources .kept)
       unfolding keptLeft searched discovered keptOf
       kept-reduced = rw (passes, eq-eqb (madeRun .end) 0 complete)

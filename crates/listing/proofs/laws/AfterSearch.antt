@@ -18,39 +18,39 @@ use Rattle.redundancy.specs.declared.Reduced.{Reduced}
 use Rattle.redundancy.specs.Reduction.{reduced, reducedAfter}
 use Rattle.listing.specs.declared.Listing.{Listing}
 use Rattle.listing.specs.declared.Listing.the-variants.{Refused, Incomplete, Complete}
-use Rattle.listing.specs.Listing.{Lent, foundIn, listingOf, keptOf, searched, rejectedLeft, foundLeft, keptLeft, listing, GoesAsWritten}
+use Rattle.listing.specs.Listing.{Resources, foundIn, listingOf, keptOf, searched, rejectedLeft, foundLeft, keptLeft, listing, GoesAsWritten}
 
-module _ (s : Settings) (text : List ℕ) (lent : Lent) where
+module _ (s : Settings) (text : List ℕ) (resources : Resources) where
   -- what the search answered and left is what it is to
   pub record Searched (d : Discovered) (rejected found : List ℕ) : Type 0 where
-    pub answers : d ≡ discovered s text (capacityOf (lent .rejected) (lent .found) (lent .budget))
-    pub rejects : rejected ≡ rejectedAfter s text (lent .rejected) (lent .found) (lent .budget)
-    pub finds : found ≡ foundAfter s text (lent .rejected) (lent .found) (lent .budget)
+    pub answers : d ≡ discovered s text (capacityOf (resources .rejected) (resources .found) (resources .budget))
+    pub rejects : rejected ≡ rejectedAfter s text (resources .rejected) (resources .found) (resources .budget)
+    pub finds : found ≡ foundAfter s text (resources .rejected) (resources .found) (resources .budget)
 
-module _ {s : Settings} {text : List ℕ} {lent : Lent} {d : Discovered} {rejected found : List ℕ} (h : Searched s text lent d rejected found) where
-  returned : (answer : Listing) (kept : List ℕ) → answer ≡ listingOf d found (length (lent .kept)) → kept ≡ keptOf d found (lent .kept)
-      → GoesAsWritten s text lent answer rejected found kept
+module _ {s : Settings} {text : List ℕ} {resources : Resources} {d : Discovered} {rejected found : List ℕ} (h : Searched s text resources d rejected found) where
+  returned : (answer : Listing) (kept : List ℕ) → answer ≡ listingOf d found (length (resources .kept)) → kept ≡ keptOf d found (resources .kept)
+      → GoesAsWritten s text resources answer rejected found kept
   unfolding searched rejectedLeft foundLeft keptLeft listing
   returned answer kept e f =
       record {
-        answers = e ∙ ap₂ (λ (x : Discovered) (l : List ℕ). listingOf x l (length (lent .kept))) (h .answers) (h .finds);
+        answers = e ∙ ap₂ (λ (x : Discovered) (l : List ℕ). listingOf x l (length (resources .kept))) (h .answers) (h .finds);
         leaves-rejected = h .rejects;
         leaves-found = h .finds;
-        leaves-kept = f ∙ ap₂ (λ (x : Discovered) (l : List ℕ). keptOf x l (lent .kept)) (h .answers) (h .finds);
+        leaves-kept = f ∙ ap₂ (λ (x : Discovered) (l : List ℕ). keptOf x l (resources .kept)) (h .answers) (h .finds);
       }
 
-  pub search-refused : (r : Refusal) → d ≡ Answered.Refused r → GoesAsWritten s text lent (Refused r) rejected found (lent .kept)
+  pub search-refused : (r : Refusal) → d ≡ Answered.Refused r → GoesAsWritten s text resources (Refused r) rejected found (resources .kept)
   unfolding listingOf keptOf
-  search-refused r e = returned (Refused r) (lent .kept) (rw e) (rw e)
+  search-refused r e = returned (Refused r) (resources .kept) (rw e) (rw e)
 
-  pub search-stopped : (run : Run) → d ≡ Answered.Ran run → (run .end ≡ 0 → ⊥) → GoesAsWritten s text lent (Incomplete run) rejected found (lent .kept)
+  pub search-stopped : (run : Run) → d ≡ Answered.Ran run → (run .end ≡ 0 → ⊥) → GoesAsWritten s text resources (Incomplete run) rejected found (resources .kept)
   unfolding listingOf keptOf
-  search-stopped run e stopped = returned (Incomplete run) (lent .kept) (rw (e, ne-eqb (run .end) 0 stopped)) (rw (e, ne-eqb (run .end) 0 stopped))
+  search-stopped run e stopped = returned (Incomplete run) (resources .kept) (rw (e, ne-eqb (run .end) 0 stopped)) (rw (e, ne-eqb (run .end) 0 stopped))
 
-  -- the reduction is handed the first words of the list, as many as were found
+  -- the reduction is given the first words of the list, as many as were found
   pub search-completed : (run : Run) → d ≡ Answered.Ran run → run .end ≡ 0 → (answer : Reduced) (kept : List ℕ)
-      → answer ≡ reduced (take (run .found - 0) found) (length (lent .kept)) → kept ≡ reducedAfter (take (run .found - 0) found) (lent .kept)
-      → GoesAsWritten s text lent (Complete run answer) rejected found kept
+      → answer ≡ reduced (take (run .found - 0) found) (length (resources .kept)) → kept ≡ reducedAfter (take (run .found - 0) found) (resources .kept)
+      → GoesAsWritten s text resources (Complete run answer) rejected found kept
   unfolding listingOf keptOf foundIn
   search-completed run e ended answer kept a k =
       let all = ap (λ (n : ℕ). take n found) (sub-zero (run .found)) in
@@ -58,10 +58,10 @@ module _ {s : Settings} {text : List ℕ} {lent : Lent} {d : Discovered} {reject
       returned
       (Complete run answer)
       kept
-      (rw (e, completed) (ap (Complete run) (a ∙ ap (λ (words : List ℕ). reduced words (length (lent .kept))) all)))
-      (rw (e, completed) (k ∙ ap (λ (words : List ℕ). reducedAfter words (lent .kept)) all))
+      (rw (e, completed) (ap (Complete run) (a ∙ ap (λ (words : List ℕ). reduced words (length (resources .kept))) all)))
+      (rw (e, completed) (k ∙ ap (λ (words : List ℕ). reducedAfter words (resources .kept)) all))
 
   -- the words that a run found are in its list
-  pub found-there : (run : Run) → d ≡ Answered.Ran run → run .found ≤ length (lent .found)
+  pub found-there : (run : Run) → d ≡ Answered.Ran run → run .found ≤ length (resources .found)
   unfolding capacityOf
-  found-there run e = answer-within s text (capacityOf (lent .rejected) (lent .found) (lent .budget)) run (sym (h .answers) ∙ e) .found-fits
+  found-there run e = answer-within s text (capacityOf (resources .rejected) (resources .found) (resources .budget)) run (sym (h .answers) ∙ e) .found-fits

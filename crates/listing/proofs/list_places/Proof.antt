@@ -2,7 +2,7 @@
 -- Assumes nothing.
 use native.Mathlib.Omega.{arith}
 use borrow.Author.Needs.{needs}
-use Rattle.listing.specs.Listing.{lentOf}
+use Rattle.listing.specs.Listing.{resourcesOf}
 use Rattle.listing.proofs.laws.AfterSearch.{Searched, search-refused, search-stopped, search-completed, found-there}
 use Rattle.listing.proofs.list_places.Statement.{statement}
 use Rattle.listing.proofs.list_places.Tie as tie
@@ -13,7 +13,7 @@ after-search : (c : tie.After-discover)
     Searched
     (a .settings)
     (a .text .now)
-    (lentOf (a .rejected .now) (a .found .now) (a .kept .now) (a .budget))
+    (resourcesOf (a .rejected .now) (a .found .now) (a .kept .now) (a .budget))
     (c .discover .result)
     (c .discover .last .1 .1 .1 .0)
     (c .discover .last .1 .1 .1 .1 .0)
