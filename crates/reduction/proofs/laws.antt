@@ -1,4 +1,5 @@
 pub mod Tallying
+pub mod Balancing
 pub mod Rarity
 pub mod Trying
 pub mod KeptWords

@@ -3,11 +3,11 @@
 ghost use mathlib.Core.Path.{_≡_};
 ghost use mathlib.Core.Logic.{_↔_};
 ghost use mathlib.Core.Bool.{true};
-ghost use Prim.Native.Nat.{_<_};
+ghost use Prim.Native.Nat.{_≤_, _<_};
 ghost use Rattle.places.specs.Sets.{has};
 ghost use Rattle.limits.specs.Settings.{mostActivities};
 ghost use Rattle.places.specs.Places.{placeOf, placeUnder};
-ghost use Rattle.redundancy.specs.Cover.{Listable, usable, Cover};
+ghost use Rattle.redundancy.specs.Cover.{Listable, usable, Cover, inputCount, outputCount, balanced};
 ghost use Rattle.redundancy.specs.Reduction.{redundant};
 ghost use Rattle.reduction.specs.Choosing.{Tallied, Chosen};
 ghost use Rattle.reduction.specs.Gathering.{GatheredAs};
@@ -47,6 +47,47 @@ fn tally_of(words: &[u32], whole: u32, left: u32) -> Tally
     }
 }
 
+// How many inputs a word has.
+fn inputs_of(word: u32) -> u32
+    ensures { λ r. ⌜ (r ≡ inputCount word) × (r ≤ 16) ⌝ }
+{
+    u32::count_ones(word % 65536)
+}
+
+// How many outputs a word has.
+fn outputs_of(word: u32) -> u32
+    ensures { λ r. ⌜ (r ≡ outputCount word) × (r ≤ 16) ⌝ }
+{
+    u32::count_ones(word / 65536)
+}
+
+// Whether the words that can be the next part are not all poorer in inputs for their outputs than what is left, and not all richer. Words that are all
+// of one kind make it up in no way, which else is seen only after every way was tried.
+fn is_balanced(words: &[u32], whole: u32, left: u32) -> bool
+    ensures { λ r. ⌜ r ≡ balanced (now (words .entry)) whole left ⌝ }
+{
+    let inputs = inputs_of(left);
+    let outputs = outputs_of(left);
+    let mut many = false;
+    let mut few = false;
+    let mut at = 0;
+    while at < words.len() {
+        let word = words[at];
+        at += 1;
+        if !is_usable(word, whole, left) {
+            continue;
+        }
+        let own = inputs_of(word) * outputs;
+        let due = inputs * outputs_of(word);
+        many = many | (due <= own);
+        few = few | (own <= due);
+        if many & few {
+            return true;
+        }
+    }
+    false
+}
+
 // The highest of some activities.
 fn highest_of(activities: u32) -> u32
     requires { ⌜ 0 < activities ⌝ }
@@ -55,7 +96,8 @@ fn highest_of(activities: u32) -> u32
     31 - u32::leading_zeros(activities)
 }
 
-// The activity to cover next: one that the fewest words can cover. Where no word can cover some activity, the search ends here.
+// The activity to cover next: one that the fewest words can cover. The search ends here where no word can cover some activity, and where every
+// activity has a choice of three or more but the words are not balanced.
 fn choose(words: &[u32], whole: u32, left: u32) -> Choice
     requires { ⌜ 0 < left ⌝ }
     ensures { λ r. ⌜ Chosen (now (words .entry)) whole left r ⌝ }
@@ -69,6 +111,9 @@ fn choose(words: &[u32], whole: u32, left: u32) -> Choice
     }
     if tally.thrice != left {
         return Choice::Activity(highest_of(left - tally.thrice));
+    }
+    if !is_balanced(words, whole, left) {
+        return Choice::Uncoverable;
     }
     Choice::Activity(highest_of(left))
 }

@@ -25,7 +25,7 @@ pub struct Tally {
 // Which activity is covered next.
 pub enum Choice {
     Activity(u32),
-    // some activity is in no word that can be the next part
+    // there is no cover: some activity is in no word that can be the next part, or these words are not balanced
     Uncoverable,
 }
 

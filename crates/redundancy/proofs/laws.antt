@@ -2,6 +2,7 @@ pub mod NoUnion
 pub mod Parts
 pub mod Covers
 pub mod CoverParts
+pub mod Balance
 pub mod Sharing
 pub mod PlaceWords
 pub mod Partitions

@@ -2,14 +2,15 @@
 -- until nothing is left. Over list words, in which the inputs and the outputs are one set of 32 activities. Document 01, "Some places and their
 -- forms".
 -- Assumes nothing.
-use Prim.Native.Nat.{ℕ, _-_}
+use Prim.Native.Nat.{ℕ, _-_, _*_, _/_, _%_}
 use mathlib.Core.Path.{_≡_}
 use mathlib.Core.Bool.{Bool, true, not, _&&_}
 use mathlib.Core.List.{List, List·Memᴰ}
 use lib.Bits.{bitAnd}
-use lib.Dec.{eqb}
+use lib.Count.{ones}
+use lib.Dec.{eqb, leb}
 use lib.ListN.{length}
-use Rattle.foundation.specs.Lists.{Each, keep}
+use Rattle.foundation.specs.Lists.{Each, any, keep}
 use Rattle.limits.specs.Settings.{mostActivities}
 use Rattle.places.specs.Sets.{member}
 use Rattle.places.specs.Places.{placeOf, placeUnder}
@@ -34,3 +35,22 @@ partsOf words whole = keep (usable whole whole) words
 -- how many words of the list can be the next part and cover an activity
 unfoldable pub choices : List ℕ → ℕ → ℕ → ℕ → ℕ
 choices words whole left activity = length (keep (λ (w : ℕ). usable whole left w && member w activity) words)
+
+-- how many inputs and outputs a word has
+abbrev pub inputCount : ℕ → ℕ
+inputCount w = ones (w % 65536)
+
+abbrev pub outputCount : ℕ → ℕ
+outputCount w = ones (w / 65536)
+
+-- the word has at least, and at most, as many inputs for each output as what is left
+unfoldable pub manyInputs : ℕ → ℕ → Bool
+manyInputs left w = leb (inputCount left * outputCount w) (inputCount w * outputCount left)
+
+unfoldable pub fewInputs : ℕ → ℕ → Bool
+fewInputs left w = leb (inputCount w * outputCount left) (inputCount left * outputCount w)
+
+-- of the words that can be the next part, not all have too few inputs for their outputs, and not all too many
+unfoldable pub balanced : List ℕ → ℕ → ℕ → Bool
+balanced words whole left =
+    any (λ (w : ℕ). usable whole left w && manyInputs left w) words && any (λ (w : ℕ). usable whole left w && fewInputs left w) words

@@ -17,10 +17,10 @@ unfolding Listable partsOf
 parts-listable words whole places = each-keep (usable whole whole) places
 
 -- a part of a part, and what a part leaves
-part-trans : (w l whole : ℕ) → Part w l → Part l whole → Part w whole
+pub part-trans : (w l whole : ℕ) → Part w l → Part l whole → Part w whole
 part-trans w l whole e f = bits-part w whole λ a. omega (arith, part-has w l a e, part-has l whole a f)
 
-part-rest : (w l : ℕ) → Part w l → Part (l - w) l
+pub part-rest : (w l : ℕ) → Part w l → Part (l - w) l
 part-rest w l e = bits-part (l - w) l λ a. omega (arith, part-has w l a e)
 
 module _ {words : List ℕ} {whole : ℕ} where

@@ -43,6 +43,20 @@ module _ (w l k : ℕ) (e : Part w l) where
       rest : l - w ≡ above * 2 ^ k + (l % 2 ^ k - w % 2 ^ k)
       rest = omega (arith, split l k, split w k, highs, low-le)
 
+-- the halves of a part are parts of the halves, and what they leave are the halves of what the part leaves
+module _ (w l : ℕ) (e : Part w l) where
+  pub part-lower : Part (w % 65536) (l % 65536)
+  part-lower = sym (and-mod w l 16) ∙ ap (λ (x : ℕ). x % 65536) e
+
+  pub part-upper : Part (w / 65536) (l / 65536)
+  part-upper = part-high w l 16 e
+
+  pub rest-upper : (l - w) / 65536 ≡ l / 65536 - w / 65536
+  rest-upper = rest-high w l 16 e
+
+  pub rest-lower : (l - w) % 65536 ≡ l % 65536 - w % 65536
+  rest-lower = omega (arith, rest-upper, low-le w l 16 e, high-le w l 16 e)
+
 -- low and high half of a part are no larger than those of the whole
 pub part-halves : (w l : ℕ) → Part w l → (w % 65536 ≤ l % 65536) × (w / 65536 ≤ l / 65536)
 part-halves w l e = (low-le w l 16 e, high-le w l 16 e)

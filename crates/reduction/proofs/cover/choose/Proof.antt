@@ -1,12 +1,14 @@
 -- `reduction::cover::choose` meets its contract: what no word or too few words can cover is what is left without those that enough can, and the
--- highest of it is an activity with the fewest choices.
+-- highest of it is an activity with the fewest choices; where words are not balanced there is no cover.
 -- Assumes nothing.
 use Prim.Native.Nat.{ℕ, _-_, _≤_, _<_}
 use native.Mathlib.Omega.{arith}
-use mathlib.Core.Path.{_≡_}
+use mathlib.Core.Path.{_≡_, sym, _∙_}
 use borrow.Author.Needs.{needs}
+use borrow.Author.Tests.{not-true}
 use Rattle.reduction.specs.Choosing.{Chosen}
 use Rattle.redundancy.proofs.laws.Parts.{part-le}
+use Rattle.redundancy.proofs.laws.Balance.{unbalanced}
 use Rattle.reduction.proofs.laws.Rarity.{twice-part, thrice-part, no-cover, single, double, many}
 use Rattle.reduction.proofs.cover.choose.Statement.{statement}
 use Rattle.reduction.proofs.cover.choose.Tie as tie
@@ -57,13 +59,20 @@ returns-3 c =
 returns-4 : tie.Need-returns-4
 unfolding Chosen
 returns-4 c =
-    let one = c .before .before .before .before .before in
+    let entry = c .before .before .before .before .before .before .before .before .before .before in
+    unbalanced (sym (c .before .is-balanced .ensures) ∙ not-true _ (c .if4 .taken)) λ e. omega (arith, e, entry .pre)
+
+returns-5 : tie.Need-returns-5
+unfolding Chosen
+returns-5 c =
+    let three = c .before .before .before in
+    let one = three .before .before .before .before in
     many
     (one .before .before .tally-of .ensures)
     (one .if1 .left)
     (c .highest-of3 .result)
     (c .highest-of3 .ensures .0)
-    (c .before .if3 .left)
+    (three .if3 .left)
     (c .highest-of3 .ensures .1)
 
 pub choose-spec : {M : Type 1} → statement M
@@ -78,5 +87,7 @@ choose-spec =
     sub-highest-of-2
     highest-of-requires-2
     returns-3
-    (λ c κs. c .before .before .before .before .before .before .before .before .pre)  -- highest-of-requires-3
-    returns-4)
+    (λ c κs. search needs)  -- is-balanced-requires
+    returns-4
+    (λ c κs. c .before .before .before .before .before .before .before .before .before .before .pre)  -- highest-of-requires-3
+    returns-5)
