@@ -3,6 +3,7 @@ use balances::CaseCounts;
 use balances::Judged;
 use balances::Replayed;
 use balances::Verdict;
+use case_tables::report;
 use event_log::check_log;
 use limits::Refusal;
 use limits::number_of;
@@ -11,16 +12,6 @@ use log_format::Checked;
 use places::Place;
 use replay::judge_place;
 use replay::replay_first_trace;
-
-// Writes the name of a case, and whether its answer is the expected one.
-pub fn report(name: &[u8], same: bool) {
-    io::write_all(1, name);
-    if same {
-        io::write_all(1, b": ok\n");
-    } else {
-        io::write_all(1, b": DIFFERS\n");
-    }
-}
 
 // Whether a refusal has this number and value.
 pub fn is_refusal(refusal: Refusal, number: u8, value: usize) -> bool {

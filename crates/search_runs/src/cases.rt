@@ -6,14 +6,15 @@
 use crate::runs::Answer;
 use crate::runs::Capacity;
 use crate::runs::fill_and_search;
-use crate::table::find;
-use crate::table::numbers;
-use crate::table::unfold;
-use crate::words::Seen;
 use crate::words::begins_with;
-use crate::words::see_found;
 use crate::words::see_rejected;
 use candidate_search::Run;
+use case_tables::report;
+use case_tables::table::find;
+use case_tables::table::numbers;
+use case_tables::table::unfold;
+use case_tables::words::Seen;
+use case_tables::words::see_list;
 use limits::Settings;
 
 fn settings_in(values: &[u64; 40]) -> Settings {
@@ -58,7 +59,7 @@ fn rest(words: &[u64], from: usize) -> &[u64] {
 // What is seen of both buffers after a run. The words are those found and then those rejected, all of them or none.
 fn see(run: Run, rejected: &[u64], found: &[u32], words: &[u64]) -> Seen {
     let others = rest(words, run.found);
-    let list = see_found(found, run.found, words, 0);
+    let list = see_list(found, run.found, words, 0);
     let cache = see_rejected(rejected, run.rejected, others, list.sum);
     let all = run.found <= words.len() && others.len() == run.rejected;
     Seen {
@@ -98,20 +99,10 @@ fn run_twice(values: &[u64; 40], text: &[u8]) -> bool {
         && begins_with(&longer, &shorter, a.run.found)
 }
 
-// Writes what a case is called, and whether it came as expected.
-fn report(name: &[u8], same: bool) {
-    io::write_all(1, name);
-    if same {
-        io::write_all(1, b": ok\n");
-    } else {
-        io::write_all(1, b": DIFFERS\n");
-    }
-}
-
 // Runs the case of numbers and a log: one run, or where there are ten numbers two.
 fn run_case(line: &[u8], text: &[u8]) -> bool {
     let mut values = [0u64; 40];
-    let count = numbers(line, &mut values);
+    let count = numbers(line, 15, &mut values);
     if count == 10 {
         return run_twice(&values, text);
     }
@@ -127,9 +118,6 @@ fn run_case(line: &[u8], text: &[u8]) -> bool {
 
 fn run_line(line: &[u8]) {
     let name = find(line, b'|', 0);
-    if line.len() <= name {
-        return;
-    }
     let figures = find(line, b'|', name + 1);
     if line.len() <= figures {
         return;

@@ -2,8 +2,7 @@
 // ones. It writes a line for each case. What a case looks like is said in cases.rt.
 mod cases; // cases.rt: a line of input, its case run and compared
 mod runs; // runs.rt: the search called on filled buffers
-mod table; // table.rt: the parts of a line
-mod words; // words.rt: the words of the buffers
+mod words; // words.rt: the words of rejected places
 
 fn main() {
     let mut input = [0u8; 32768];

@@ -1,8 +1,8 @@
 // The search called on filled buffers, and what it answered and left in them.
-use crate::words::fill_found;
 use crate::words::fill_rejected;
 use candidate_search::Discovered;
 use candidate_search::Run;
+use case_tables::words::fill_list;
 use discovery::discover;
 use limits::Refusal;
 use limits::Settings;
@@ -78,6 +78,6 @@ pub fn fill_and_search(
     found: &mut [u32],
 ) -> Answer {
     fill_rejected(rejected);
-    fill_found(found);
+    fill_list(found);
     answer_of(search(settings, text, room, rejected, found))
 }

@@ -19,7 +19,7 @@ run-lines-spec =
     Inv-loop
     μ-loop
     (λ c. omega arith)  -- loop-holds
-    (λ c κs. omega arith)  -- find-requires
+    (λ c κs. tt)  -- find-requires
     (λ c. omega arith)  -- sub-run-line
     (λ c. omega arith)  -- part-run-line-start
     (λ c. omega arith)  -- part-run-line-end

@@ -1,11 +1,10 @@
 // The parts of a line: fields, numbers, and a log in which a semicolon stands for the line feed.
-ghost use Prim.Native.Nat.{_≤_};
+ghost use Prim.Native.Nat.{_≤_, max};
 ghost use lib.ListN.{length};
 
-// Where a byte is next, or the end of the text.
+// Where a byte is next from an index on, or the end of the text; the index itself where it lies beyond the end.
 pub fn find(text: &[u8], byte: u8, from: usize) -> usize
-    requires { ⌜ from ≤ length (now text) ⌝ }
-    ensures { λ r. ⌜ (from ≤ r) × (r ≤ length (now (text .entry))) ⌝ }
+    ensures { λ r. ⌜ (from ≤ r) × (r ≤ max from (length (now (text .entry)))) ⌝ }
 {
     let mut at = from;
     while at < text.len() {
@@ -17,12 +16,11 @@ pub fn find(text: &[u8], byte: u8, from: usize) -> usize
     at
 }
 
-// Where a byte stands: 0 between two words, 1 in a number, 2 in another word. A word that begins with a decimal digit is a number.
-fn place_after(place: u8, byte: u8) -> u8 {
+fn is_digit(byte: u8, hexadecimal: bool) -> bool {
     match byte {
-        b' ' | b'|' => 0,
-        b'0'..=b'9' => if place == 0 { 1 } else { place },
-        _ => if place == 0 { 2 } else { place },
+        b'0'..=b'9' => true,
+        b'A'..=b'F' => hexadecimal,
+        _ => false,
     }
 }
 
@@ -34,22 +32,36 @@ fn digit(byte: u8) -> u64 {
     }
 }
 
-// A number with one digit more. The words of places, which come after 15 other numbers, are hexadecimal.
-fn with_digit(number: u64, index: usize, byte: u8) -> u64 {
-    if index < 15 {
-        number % 1099511627776 * 10 + digit(byte) % 10
-    } else {
+// A number with one digit more.
+fn with_digit(number: u64, hexadecimal: bool, byte: u8) -> u64 {
+    if hexadecimal {
         number % 1099511627776 * 16 + digit(byte) % 16
+    } else {
+        number % 1099511627776 * 10 + digit(byte) % 10
+    }
+}
+
+// Where a byte stands: 0 between two words, 1 in a number, 2 in another word. A word that begins with a digit is a number.
+fn place_after(place: u8, hexadecimal: bool, byte: u8) -> u8 {
+    match byte {
+        b' ' | b'|' => 0,
+        _ => if place != 0 {
+            place
+        } else if is_digit(byte, hexadecimal) {
+            1
+        } else {
+            2
+        },
     }
 }
 
 // Gives a number one digit more, where there is such a number and the byte stands in it.
-fn put_digit(values: &mut [u64], index: usize, place: u8, byte: u8) {
+fn put_digit(values: &mut [u64], index: usize, hexadecimal: bool, place: u8, byte: u8) {
     if place != 1 {
         return;
     }
     if index < values.len() {
-        values[index] = with_digit(values[index], index, byte);
+        values[index] = with_digit(values[index], hexadecimal, byte);
     }
 }
 
@@ -63,15 +75,17 @@ fn count_after(count: usize, before: u8, place: u8) -> usize {
 }
 
 // Puts the numbers of a line, each with a blank or a bar after it, into an array of zeros, as many as it has room for, and answers how many they are.
-pub fn numbers(line: &[u8], values: &mut [u64]) -> usize {
+// The first are decimal, as many as decimals says; those after them are hexadecimal, as the words of places are.
+pub fn numbers(line: &[u8], decimals: usize, values: &mut [u64]) -> usize {
     let mut count = 0;
     let mut place = 0;
     let mut at = 0;
     while at < line.len() {
         let byte = line[at];
         let before = place;
-        place = place_after(place, byte);
-        put_digit(values, count, place, byte);
+        let hexadecimal = decimals <= count;
+        place = place_after(place, hexadecimal, byte);
+        put_digit(values, count, hexadecimal, place, byte);
         count = count_after(count, before, place);
         at += 1;
     }

@@ -1,13 +1,13 @@
--- `search_runs::table::find` answers an index from where it starts on, at most the text's length: the index grows to it.
+-- `case_tables::table::find` answers an index from where it starts on, at most the text's length unless it starts beyond: the index grows to it.
 -- Assumes nothing.
-use Prim.Native.Nat.{_≤_, _-_}
+use Prim.Native.Nat.{_≤_, _-_, max}
 use native.Mathlib.Omega.{arith}
 use lib.ListN.{length}
-use Rattle.search_runs.proofs.table.find.Statement.{statement}
-use Rattle.search_runs.proofs.table.find.Tie as tie
+use Rattle.case_tables.proofs.table.find.Statement.{statement}
+use Rattle.case_tables.proofs.table.find.Tie as tie
 
 abbrev Inv-loop : tie.InvT-loop
-Inv-loop text byte from at₀ at = (from ≤ at) × (at ≤ length text)
+Inv-loop text byte from at₀ at = (from ≤ at) × (at ≤ max from (length text))
 
 abbrev μ-loop : tie.MeasureT-loop
 μ-loop text byte from at₀ at = length text - at

@@ -1,18 +1,18 @@
--- `search_runs::table::numbers` is safe and ends: there are no more numbers than bytes, and each is written where there is room.
+-- `case_tables::table::numbers` is safe and ends: there are no more numbers than bytes, and each is written where there is room.
 -- Assumes nothing.
 use Prim.Native.Nat.{_≤_, _-_}
 use mathlib.Core.Path.{_≡_}
 use native.Mathlib.Omega.{arith}
 use borrow.Author.Needs.{needs}
 use lib.ListN.{length, length-set}
-use Rattle.search_runs.proofs.table.numbers.Statement.{statement}
-use Rattle.search_runs.proofs.table.numbers.Tie as tie
+use Rattle.case_tables.proofs.table.numbers.Statement.{statement}
+use Rattle.case_tables.proofs.table.numbers.Tie as tie
 
 abbrev Inv-loop : tie.InvT-loop
-Inv-loop line values₀ count₀ place₀ at₀ values count place at = (length values ≡ length values₀) × (at ≤ length line)
+Inv-loop line decimals values₀ count₀ place₀ at₀ values count place at = (length values ≡ length values₀) × (at ≤ length line)
 
 abbrev μ-loop : tie.MeasureT-loop
-μ-loop line values₀ count₀ place₀ at₀ values count place at = length line - at
+μ-loop line decimals values₀ count₀ place₀ at₀ values count place at = length line - at
 
 pub numbers-spec : {M : Type 1} → statement M
 numbers-spec =

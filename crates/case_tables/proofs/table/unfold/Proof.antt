@@ -1,11 +1,11 @@
--- `search_runs::table::unfold` answers at most the buffer's length: the buffer keeps it, and the index stops there.
+-- `case_tables::table::unfold` answers at most the buffer's length: the buffer keeps it, and the index stops there.
 -- Assumes nothing.
 use Prim.Native.Nat.{_≤_, _-_}
 use mathlib.Core.Path.{_≡_}
 use native.Mathlib.Omega.{arith}
 use lib.ListN.{length, length-set}
-use Rattle.search_runs.proofs.table.unfold.Statement.{statement}
-use Rattle.search_runs.proofs.table.unfold.Tie as tie
+use Rattle.case_tables.proofs.table.unfold.Statement.{statement}
+use Rattle.case_tables.proofs.table.unfold.Tie as tie
 
 abbrev Inv-loop : tie.InvT-loop
 Inv-loop line log₀ at₀ log at = (length log ≡ length log₀) × (at ≤ length log₀)
