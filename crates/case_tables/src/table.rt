@@ -41,6 +41,17 @@ fn with_digit(number: u64, hexadecimal: bool, byte: u8) -> u64 {
     }
 }
 
+// The number that some digits stand for.
+pub fn number(digits: &[u8], hexadecimal: bool) -> u64 {
+    let mut value = 0;
+    let mut at = 0;
+    while at < digits.len() {
+        value = with_digit(value, hexadecimal, digits[at]);
+        at += 1;
+    }
+    value
+}
+
 // Where a byte stands: 0 between two words, 1 in a number, 2 in another word. A word that begins with a digit is a number.
 fn place_after(place: u8, hexadecimal: bool, byte: u8) -> u8 {
     match byte {
