@@ -1,3 +1,4 @@
+pub mod CountingChoices
 pub mod Tallying
 pub mod Balancing
 pub mod Rarity

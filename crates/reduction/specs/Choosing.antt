@@ -1,5 +1,5 @@
--- Which activity the search for a cover takes up next: one that the fewest words can cover, told apart up to three. So where some activity can be
--- covered by no word, that is seen at once.
+-- Which activity the search for a cover takes up next: one that the fewest words can cover. So where some activity can be covered by no word, that is
+-- seen at once.
 -- Assumes nothing.
 use Prim.Native.Nat.{ℕ, _-_, _≤_, _<_, min}
 use mathlib.Core.Path.{_≡_}
@@ -17,15 +17,13 @@ module _ (words : List ℕ) (whole left : ℕ) where
     pub twice : (a : ℕ) → has (t .twice) a ≡ min 1 (choices words whole left a - 1)
     pub thrice : (a : ℕ) → has (t .thrice) a ≡ min 1 (choices words whole left a - 2)
 
-  -- an activity that is left, that some word can cover, and of which the same holds for all: no activity that is left can be covered by fewer
-  -- words, but that three and more count alike
-  pub record Rarest (a : ℕ) : Type 0 where
+  -- an activity that is left, of which no other that is left can be covered by fewer words
+  pub record Fewest (a : ℕ) : Type 0 where
     pub known : a < 32
     pub uncovered : has left a ≡ 1
-    pub coverable : 0 < choices words whole left a
-    pub fewest : (b : ℕ) → has left b ≡ 1 → min 3 (choices words whole left a) ≤ choices words whole left b
+    pub fewest : (b : ℕ) → has left b ≡ 1 → choices words whole left a ≤ choices words whole left b
 
-  -- a right choice; that there is none means that there is no cover
+  -- a right choice is such an activity, where some word can cover it; that there is none means that there is no cover
   unfoldable pub Chosen : Choice → Type 0
-  Chosen (Activity a) = Rarest a
+  Chosen (Activity a) = Fewest a × (0 < choices words whole left a)
   Chosen Uncoverable = Cover words whole left → ⊥

@@ -7,9 +7,9 @@ ghost use Prim.Native.Nat.{_≤_, _<_};
 ghost use Rattle.places.specs.Sets.{has};
 ghost use Rattle.limits.specs.Settings.{mostActivities};
 ghost use Rattle.places.specs.Places.{placeOf, placeUnder};
-ghost use Rattle.redundancy.specs.Cover.{Listable, usable, Cover, inputCount, outputCount, balanced};
+ghost use Rattle.redundancy.specs.Cover.{Listable, usable, Cover, choices, inputCount, outputCount, balanced};
 ghost use Rattle.redundancy.specs.Reduction.{redundant};
-ghost use Rattle.reduction.specs.Choosing.{Tallied, Chosen};
+ghost use Rattle.reduction.specs.Choosing.{Tallied, Fewest, Chosen};
 ghost use Rattle.reduction.specs.Gathering.{GatheredAs};
 use crate::Choice;
 use crate::Gathered;
@@ -96,7 +96,50 @@ fn highest_of(activities: u32) -> u32
     31 - u32::leading_zeros(activities)
 }
 
-// The activity to cover next: one that the fewest words can cover. The search ends here where no word can cover some activity, and where every
+// How many words can be the next part and cover an activity.
+fn choices_of(words: &[u32], whole: u32, left: u32, activity: u32) -> usize
+    requires { ⌜ activity < 32 ⌝ }
+    ensures { λ r. ⌜ r ≡ choices (now (words .entry)) whole left activity ⌝ }
+{
+    let mut count = 0;
+    let mut at = 0;
+    while at < words.len() {
+        let word = words[at];
+        at += 1;
+        if (word >> activity) % 2 == 0 {
+            continue;
+        }
+        if is_usable(word, whole, left) {
+            count += 1;
+        }
+    }
+    count
+}
+
+// An activity that the fewest words can cover.
+fn rarest_of(words: &[u32], whole: u32, left: u32) -> u32
+    requires { ⌜ 0 < left ⌝ }
+    ensures { λ r. ⌜ Fewest (now (words .entry)) whole left r ⌝ }
+{
+    let mut rarest = highest_of(left);
+    let mut fewest = choices_of(words, whole, left, rarest);
+    let mut next = 0;
+    while next < 32 {
+        let activity = next;
+        next += 1;
+        if (left >> activity) % 2 == 0 {
+            continue;
+        }
+        let count = choices_of(words, whole, left, activity);
+        if count < fewest {
+            rarest = activity;
+            fewest = count;
+        }
+    }
+    rarest
+}
+
+// The activity to cover next: one that the fewest words can cover, by the tally where it tells. The search ends here where no word can cover some activity, and where every
 // activity has a choice of three or more but the words are not balanced.
 fn choose(words: &[u32], whole: u32, left: u32) -> Choice
     requires { ⌜ 0 < left ⌝ }
@@ -115,7 +158,7 @@ fn choose(words: &[u32], whole: u32, left: u32) -> Choice
     if !is_balanced(words, whole, left) {
         return Choice::Uncoverable;
     }
-    Choice::Activity(highest_of(left))
+    Choice::Activity(rarest_of(words, whole, left))
 }
 
 // Whether words other than the whole cover what is left of it, each activity once. Each call leaves fewer activities uncovered.
@@ -129,14 +172,14 @@ fn is_covered(words: &[u32], whole: u32, left: u32) -> bool
     if left % 65536 == 0 {
         return false;
     }
-    let Choice::Activity(activity) = choose(words, whole, left) else {
+    let Choice::Activity(chosen) = choose(words, whole, left) else {
         return false;
     };
     let mut at = 0;
     while at < words.len() {
         let word = words[at];
         at += 1;
-        if (word >> activity) % 2 == 0 {
+        if (word >> chosen) % 2 == 0 {
             continue;
         }
         if !is_usable(word, whole, left) {
@@ -171,13 +214,12 @@ fn gather(words: &[u32], whole: u32, parts: &mut [u32]) -> Gathered
 }
 
 // Whether a place of a list is the union of two or more others that do not overlap. The search goes over the list again and again, so it is given
-// only the words that matter, where they are not too many.
-pub fn is_redundant(words: &[u32], whole: u32) -> bool
+// only the words that matter, where a buffer for them takes all. What that buffer holds is not read, and what it is left with is of no use.
+pub fn is_redundant(words: &[u32], whole: u32, parts: &mut [u32]) -> bool
     requires { ⌜ Listable (now words) × (placeUnder mostActivities (placeOf whole) ≡ true) ⌝ }
     ensures { λ r. ⌜ r ≡ redundant (now (words .entry)) whole ⌝ }
 {
-    let mut parts = [0u32; 512];
-    match gather(words, whole, &mut parts) {
+    match gather(words, whole, parts) {
         Gathered::All(count) => is_covered(&parts[0..count], whole, whole),
         Gathered::TooMany => is_covered(words, whole, whole),
     }

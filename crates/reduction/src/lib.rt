@@ -41,12 +41,13 @@ fn keep_irredundant(words: &[u32], kept: &mut [u32]) -> usize
     ensures count { λ r. ⌜ r ≡ length (reducedWords (now (words .entry))) ⌝ }
     ensures list { λ _. ⌜ now (kept .exit) ≡ overwrite (reducedWords (now (words .entry))) (now (kept .entry)) ⌝ }
 {
+    let mut parts = [0u32; 1024];
     let mut count = 0;
     let mut at = 0;
     while at < words.len() {
         let word = words[at];
         at += 1;
-        if is_redundant(words, word) {
+        if is_redundant(words, word, &mut parts) {
             continue;
         }
         kept[count] = word;

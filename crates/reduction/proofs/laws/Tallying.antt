@@ -4,20 +4,16 @@
 use Prim.Native.Nat.{ℕ, zero, suc, _+_, _-_, _^_, _≤_, min, max}
 use native.Mathlib.Omega.{arith}
 use native.Mathlib.Nat.{zero-div}
-use mathlib.Core.Path.{_≡_, ap, _∙_}
-use mathlib.Core.Bool.{Bool, true, false, cond, _&&_}
+use mathlib.Core.Path.{_≡_}
+use mathlib.Core.Bool.{true, false}
 use mathlib.Core.List.{List, [], _∷_, _++_}
-use borrow.Author.Tests.{eqb-true, eqb-false}
 use lib.Bits.{bitAnd, bitOr}
-use lib.ListN.{length, length-append}
-use Rattle.foundation.specs.Lists.{keep}
-use Rattle.foundation.proofs.laws.Booleans.{by-test}
-use Rattle.foundation.proofs.laws.Lists.{keep-append}
-use Rattle.places.specs.Sets.{has, member}
+use Rattle.places.specs.Sets.{has}
 use Rattle.places.proofs.laws.SetBits.{has-and, has-or}
 use Rattle.redundancy.specs.Cover.{usable, choices}
 use Rattle.reduction.specs.declared.Tally.{Tally}
 use Rattle.reduction.specs.Choosing.{Tallied}
+use Rattle.reduction.proofs.laws.CountingChoices.{choices-same, choices-one}
 
 -- a tally by its three sets
 abbrev pub tally : ℕ → ℕ → ℕ → Tally
@@ -60,35 +56,13 @@ module _ (whole left : ℕ) where
       }
 
   module _ (words : List ℕ) (w : ℕ) where
-    -- the choices with one word more
-    choices-more : (a : ℕ)
-        → choices (words ++ (w ∷ [])) whole left a
-        ≡ choices words whole left a + length (cond (usable whole left w && member w a) (w ∷ []) [])
-    unfolding choices
-    choices-more a =
-        let test : ℕ → Bool = λ (v : ℕ). usable whole left v && member v a in
-        ap length (keep-append test words (w ∷ [])) ∙ length-append (keep test words) (keep test (w ∷ []))
-
-    choices-same : usable whole left w ≡ false → (a : ℕ) → choices (words ++ (w ∷ [])) whole left a ≡ choices words whole left a
-    choices-same e a = rw (choices-more a, e) (omega arith)
-
-    choices-one : usable whole left w ≡ true → (a : ℕ) → choices (words ++ (w ∷ [])) whole left a ≡ choices words whole left a + has w a
-    choices-one e a = choices-more a ∙ rw e (ap (λ (n : ℕ). choices words whole left a + n) counted)
-      where
-        counted : length (cond (member w a) (w ∷ []) []) ≡ has w a
-        counted =
-            by-test
-            (member w a)
-            (λ e. rw e (omega (arith, eqb-true (has w a) 1 e)))
-            (λ e. rw e (omega (arith, eqb-false (has w a) 1 e)))
-
     -- a word that cannot be the next part
     pub tally-same : {t : Tally} → usable whole left w ≡ false → Tallied words whole left t → Tallied (words ++ (w ∷ [])) whole left t
     tally-same e h =
         record {
-          once = λ a. omega (arith, h .once a, choices-same e a);
-          twice = λ a. omega (arith, h .twice a, choices-same e a);
-          thrice = λ a. omega (arith, h .thrice a, choices-same e a);
+          once = λ a. omega (arith, h .once a, choices-same whole left words w e a);
+          twice = λ a. omega (arith, h .twice a, choices-same whole left words w e a);
+          thrice = λ a. omega (arith, h .thrice a, choices-same whole left words w e a);
         }
 
     -- a word that can
@@ -96,9 +70,9 @@ module _ (whole left : ℕ) where
         → Tallied (words ++ (w ∷ [])) whole left (tally (bitOr once w) (bitOr twice (bitAnd once w)) (bitOr thrice (bitAnd twice w)))
     tally-more once twice thrice e h =
         record {
-          once = λ a. rw (choices-one e a, has-or once w a, h .once a) (omega (arith, few a));
-          twice = λ a. rw (choices-one e a, has-or twice (bitAnd once w) a, has-and once w a, h .once a, h .twice a) (in-two _ _ (few a));
-          thrice = λ a. rw (choices-one e a, has-or thrice (bitAnd twice w) a, has-and twice w a, h .twice a, h .thrice a) (in-three _ _ (few a));
+          once = λ a. rw (choices-one whole left words w e a, has-or once w a, h .once a) (omega (arith, few a));
+          twice = λ a. rw (choices-one whole left words w e a, has-or twice (bitAnd once w) a, has-and once w a, h .once a, h .twice a) (in-two _ _ (few a));
+          thrice = λ a. rw (choices-one whole left words w e a, has-or thrice (bitAnd twice w) a, has-and twice w a, h .twice a, h .thrice a) (in-three _ _ (few a));
         }
       where
         few : (a : ℕ) → has w a ≤ 1

@@ -19,7 +19,7 @@ use Rattle.foundation.proofs.laws.Members.{each-member, member-at}
 use Rattle.places.specs.Sets.{has}
 use Rattle.redundancy.specs.Cover.{Listable, usable, Cover, nothing-left, take-part}
 use Rattle.redundancy.proofs.laws.Covers.{word-halves, covering-part, both-halves}
-use Rattle.reduction.specs.Choosing.{Rarest}
+use Rattle.reduction.specs.Choosing.{Fewest}
 
 -- an answer that says no is right where there is no cover
 pub says-no : {words : List ℕ} {whole left : ℕ} → (Cover words whole left → ⊥) → (false ≡ true) ↔ Cover words whole left
@@ -50,11 +50,11 @@ module _ (words : List ℕ) (whole left a : ℕ) where
   -- the words before an index were tried in vain
   pub record Tried (at : ℕ) : Type 0 where
     pub reached : at ≤ length words
-    pub choice : Rarest words whole left a
+    pub choice : Fewest words whole left a
     pub failed : Each Fails (take at words)
 
 module _ {words : List ℕ} {whole left a : ℕ} where
-  pub tried-none : Rarest words whole left a → Tried words whole left a 0
+  pub tried-none : Fewest words whole left a → Tried words whole left a 0
   tried-none chosen = record { reached = omega arith; choice = chosen; failed = each-nil }
 
   pub tried-more : (at : ℕ) → Tried words whole left a at → at < length words → Fails words whole left a (getD words at 0)

@@ -3,8 +3,7 @@
 use Prim.Native.Nat.{_≤_, _-_}
 use mathlib.Core.Path.{_≡_}
 use native.Mathlib.Omega.{arith}
-use borrow.Author.Needs.{needs}
-use lib.ListN.{length, length-set}
+use lib.ListN.{length}
 use Rattle.case_tables.proofs.table.numbers.Statement.{statement}
 use Rattle.case_tables.proofs.table.numbers.Tie as tie
 

@@ -33,10 +33,10 @@ abbrev below-measure : ℕ → In 1 is-covered-kinds.ps
 below-measure t = and 1 is-covered-kinds.ps (falls 1 is-covered-kinds.ps _<_ μ t) is-covered.Pre
 
 abbrev Inv-loop : lts.InvT-loop
-Inv-loop words whole left activity at₀ at = Tried words whole left activity at
+Inv-loop words whole left chosen at₀ at = Tried words whole left chosen at
 
 abbrev μ-loop : lts.MeasureT-loop
-μ-loop words whole left activity at₀ at = length words - at
+μ-loop words whole left chosen at₀ at = length words - at
 
 pub +is-covered-spec : {M : Type 1} → statement M
 unfolding Chosen
@@ -58,7 +58,7 @@ unfolding Chosen
     (λ c. search needs)  -- enum-known-activity
     (λ c. search needs)  -- enum-told
     (λ c. says-no (subst (Chosen _ _ _) (c .enum-told .given .1) (c .before .before .choose .ensures)))  -- returns-3
-    (λ c. tried-none (subst (Chosen _ _ _) (c .before .activity .given .1) (c .before .before .before .choose .ensures)))  -- loop-holds
+    (λ c. tried-none (subst (Chosen _ _ _) (c .before .chosen .given .1) (c .before .before .before .choose .ensures) .0))  -- loop-holds
     (λ c. omega arith)  -- mul-word
     (λ c. omega arith)  -- shared-slice-read-word
     (λ c. omega arith)  -- add-at

@@ -9,7 +9,7 @@ use borrow.Author.Tests.{not-true}
 use Rattle.reduction.specs.Choosing.{Chosen}
 use Rattle.redundancy.proofs.laws.Parts.{part-le}
 use Rattle.redundancy.proofs.laws.Balance.{unbalanced}
-use Rattle.reduction.proofs.laws.Rarity.{twice-part, thrice-part, no-cover, single, double, many}
+use Rattle.reduction.proofs.laws.Rarity.{twice-part, thrice-part, no-cover, single, double, coverable}
 use Rattle.reduction.proofs.cover.choose.Statement.{statement}
 use Rattle.reduction.proofs.cover.choose.Tie as tie
 
@@ -65,15 +65,9 @@ returns-4 c =
 returns-5 : tie.Need-returns-5
 unfolding Chosen
 returns-5 c =
-    let three = c .before .before .before in
-    let one = three .before .before .before .before in
-    many
-    (one .before .before .tally-of .ensures)
-    (one .if1 .left)
-    (c .highest-of3 .result)
-    (c .highest-of3 .ensures .0)
-    (three .if3 .left)
-    (c .highest-of3 .ensures .1)
+    let one = c .before .before .before .before .before .before .before in
+    let found = c .rarest-of .ensures in
+    (found, coverable (one .before .before .tally-of .ensures) (one .if1 .left) found)
 
 pub choose-spec : {M : Type 1} → statement M
 choose-spec =
@@ -89,5 +83,5 @@ choose-spec =
     returns-3
     (λ c κs. search needs)  -- is-balanced-requires
     returns-4
-    (λ c κs. c .before .before .before .before .before .before .before .before .before .before .pre)  -- highest-of-requires-3
+    (λ c κs. c .before .before .before .before .before .before .before .before .before .before .pre)  -- rarest-of-requires
     returns-5)
