@@ -1,20 +1,18 @@
 // The cases. A line with fewer than two bars has none. Any other has three fields, with a bar between them:
 // - what the case is called. The numbers in it are what the call is given: A mi mo T cache list budget, and for two runs another three;
 // - what is expected of a run: the number and value of a refusal, or 0 0; end found rejected replays visits; the sum of the words found and, after
-//   them, rejected; and, where they are few, those words;
+//   them, rejected; and, where they are few, those words. For two runs it is empty, as they are compared with each other;
 // - the log, with a semicolon for each line feed.
+use crate::pairs::run_twice;
 use crate::runs::Answer;
 use crate::runs::Capacity;
 use crate::runs::fill_and_search;
-use crate::words::begins_with;
-use crate::words::see_rejected;
-use candidate_search::Run;
+use crate::runs::see;
 use case_tables::report;
 use case_tables::table::find;
 use case_tables::table::numbers;
 use case_tables::table::unfold;
 use case_tables::words::Seen;
-use case_tables::words::see_list;
 use limits::Settings;
 
 fn settings_in(values: &[u64; 40]) -> Settings {
@@ -47,27 +45,6 @@ fn expected(values: &[u64; 40], answer: Answer, seen: Seen) -> bool {
         && seen.sum == values[14]
 }
 
-// The words from an index on, where there are any.
-fn rest(words: &[u64], from: usize) -> &[u64] {
-    if from <= words.len() {
-        &words[from..]
-    } else {
-        words
-    }
-}
-
-// What is seen of both buffers after a run. The words are those found and then those rejected, all of them or none.
-fn see(run: Run, rejected: &[u64], found: &[u32], words: &[u64]) -> Seen {
-    let others = rest(words, run.found);
-    let list = see_list(found, run.found, words, 0);
-    let cache = see_rejected(rejected, run.rejected, others, list.sum);
-    let all = run.found <= words.len() && others.len() == run.rejected;
-    Seen {
-        same: list.same && cache.same && (all || words.len() == 0),
-        sum: cache.sum,
-    }
-}
-
 // A run in buffers that are longer than its capacity.
 fn run_once(values: &[u64; 40], words: &[u64], text: &[u8]) -> bool {
     let mut rejected = [0u64; 640];
@@ -83,28 +60,17 @@ fn run_once(values: &[u64; 40], words: &[u64], text: &[u8]) -> bool {
     expected(values, answer, seen)
 }
 
-// Two runs, of which the second's list begins with what the first found.
-fn run_twice(values: &[u64; 40], text: &[u8]) -> bool {
-    let mut rejected = [0u64; 640];
-    let mut shorter = [0u32; 320];
-    let mut longer = [0u32; 320];
-    let settings = settings_in(values);
-    let room = capacity(values[4], values[5], values[6]);
-    let a = fill_and_search(settings, text, room, &mut rejected, &mut shorter);
-    let room = capacity(values[7], values[8], values[9]);
-    let b = fill_and_search(settings, text, room, &mut rejected, &mut longer);
-    a.number == 0
-        && b.number == 0
-        && a.run.found <= b.run.found
-        && begins_with(&longer, &shorter, a.run.found)
-}
-
 // Runs the case of numbers and a log: one run, or where there are ten numbers two.
 fn run_case(line: &[u8], text: &[u8]) -> bool {
     let mut values = [0u64; 40];
     let count = numbers(line, 15, &mut values);
     if count == 10 {
-        return run_twice(&values, text);
+        return run_twice(
+            settings_in(&values),
+            text,
+            capacity(values[4], values[5], values[6]),
+            capacity(values[7], values[8], values[9]),
+        );
     }
     let words = values;
     if count < 15 {

@@ -1,8 +1,11 @@
 // The search called on filled buffers, and what it answered and left in them.
 use crate::words::fill_rejected;
+use crate::words::see_rejected;
 use candidate_search::Discovered;
 use candidate_search::Run;
+use case_tables::words::Seen;
 use case_tables::words::fill_list;
+use case_tables::words::see_list;
 use discovery::discover;
 use limits::Refusal;
 use limits::Settings;
@@ -23,6 +26,17 @@ pub struct Answer {
     pub run: Run,
 }
 
+// What stands for the run of a call that was refused.
+pub fn no_run() -> Run {
+    Run {
+        end: 0,
+        found: 0,
+        rejected: 0,
+        replays: 0,
+        visits: 0,
+    }
+}
+
 fn answer_of(discovered: Discovered) -> Answer {
     match discovered {
         Discovered::Ran(run) => Answer {
@@ -33,13 +47,7 @@ fn answer_of(discovered: Discovered) -> Answer {
         Discovered::Refused(refusal) => Answer {
             number: number_of(refusal),
             value: value_of(refusal),
-            run: Run {
-                end: 0,
-                found: 0,
-                rejected: 0,
-                replays: 0,
-                visits: 0,
-            },
+            run: no_run(),
         },
     }
 }
@@ -80,4 +88,25 @@ pub fn fill_and_search(
     fill_rejected(rejected);
     fill_list(found);
     answer_of(search(settings, text, room, rejected, found))
+}
+
+// The words from an index on, where there are any.
+fn rest(words: &[u64], from: usize) -> &[u64] {
+    if from <= words.len() {
+        &words[from..]
+    } else {
+        words
+    }
+}
+
+// What is seen of both buffers after a run. The words are those found and then those rejected, all of them or none.
+pub fn see(run: Run, rejected: &[u64], found: &[u32], words: &[u64]) -> Seen {
+    let others = rest(words, run.found);
+    let list = see_list(found, run.found, words, 0);
+    let cache = see_rejected(rejected, run.rejected, others, list.sum);
+    let all = run.found <= words.len() && others.len() == run.rejected;
+    Seen {
+        same: list.same && cache.same && (all || words.len() == 0),
+        sum: cache.sum,
+    }
 }
