@@ -5,29 +5,12 @@ ghost use lib.ListN.{length};
 ghost use Rattle.foundation.specs.Buffers.{overwrite};
 ghost use Rattle.redundancy.specs.Cover.{Listable};
 ghost use Rattle.redundancy.specs.Reduction.{reducedWords, reduced, reducedAfter};
-use crate::cover::is_redundant;
+use crate::union::is_redundant;
 use limits::Refusal;
 use places::list::first_invalid;
 use redundancy::Reduced;
 
-mod cover; // cover.rt: whether a place is a union, by a search for an exact cover
-
-// What the words that can be the next part of a cover say of the activities that are left.
-pub struct Tally {
-    // the activities that at least one of the words has
-    pub once: u32,
-    // those that at least two have
-    pub twice: u32,
-    // those that at least three have
-    pub thrice: u32,
-}
-
-// Which activity is covered next.
-pub enum Choice {
-    Activity(u32),
-    // there is no cover: some activity is in no word that can be the next part, or these words are not balanced
-    Uncoverable,
-}
+mod union; // union.rt: whether a place is a union of others
 
 // Whether the words that can be parts of a place fitted a buffer, and how many they are.
 pub enum Gathered {

@@ -1,0 +1,148 @@
+// Which activity the search for a cover takes up next: one that the fewest words can cover.
+ghost use mathlib.Core.Path.{_≡_};
+ghost use Prim.Native.Nat.{_≤_, _<_};
+ghost use Rattle.places.specs.Sets.{has};
+ghost use Rattle.redundancy.specs.Cover.{choices, inputCount, outputCount, balanced};
+ghost use Rattle.exact_cover.specs.Choosing.{Tallied, Fewest, Chosen};
+use crate::Choice;
+use crate::Tally;
+use crate::is_usable;
+
+// How many of the words that can be the next part have an activity, told apart up to three.
+fn tally_of(words: &[u32], whole: u32, left: u32) -> Tally
+    ensures { λ r. ⌜ Tallied (now (words .entry)) whole left r ⌝ }
+{
+    let mut once = 0;
+    let mut twice = 0;
+    let mut thrice = 0;
+    let mut at = 0;
+    while at < words.len() {
+        let word = words[at];
+        at += 1;
+        if !is_usable(word, whole, left) {
+            continue;
+        }
+        thrice = thrice | (twice & word);
+        twice = twice | (once & word);
+        once = once | word;
+    }
+    Tally {
+        once,
+        twice,
+        thrice,
+    }
+}
+
+// How many inputs a word has.
+fn inputs_of(word: u32) -> u32
+    ensures { λ r. ⌜ (r ≡ inputCount word) × (r ≤ 16) ⌝ }
+{
+    u32::count_ones(word % 65536)
+}
+
+// How many outputs a word has.
+fn outputs_of(word: u32) -> u32
+    ensures { λ r. ⌜ (r ≡ outputCount word) × (r ≤ 16) ⌝ }
+{
+    u32::count_ones(word / 65536)
+}
+
+// Whether the words that can be the next part are not all poorer in inputs for their outputs than what is left, and not all richer. Words that are all
+// of one kind make it up in no way, which else is seen only after every way was tried.
+fn is_balanced(words: &[u32], whole: u32, left: u32) -> bool
+    ensures { λ r. ⌜ r ≡ balanced (now (words .entry)) whole left ⌝ }
+{
+    let inputs = inputs_of(left);
+    let outputs = outputs_of(left);
+    let mut many = false;
+    let mut few = false;
+    let mut at = 0;
+    while at < words.len() {
+        let word = words[at];
+        at += 1;
+        if !is_usable(word, whole, left) {
+            continue;
+        }
+        let own = inputs_of(word) * outputs;
+        let due = inputs * outputs_of(word);
+        many = many | (due <= own);
+        few = few | (own <= due);
+        if many & few {
+            return true;
+        }
+    }
+    false
+}
+
+// The highest of some activities.
+fn highest_of(activities: u32) -> u32
+    requires { ⌜ 0 < activities ⌝ }
+    ensures { λ r. ⌜ (r < 32) × (has activities r ≡ 1) ⌝ }
+{
+    31 - u32::leading_zeros(activities)
+}
+
+// How many words can be the next part and cover an activity.
+fn choices_of(words: &[u32], whole: u32, left: u32, activity: u32) -> usize
+    requires { ⌜ activity < 32 ⌝ }
+    ensures { λ r. ⌜ r ≡ choices (now (words .entry)) whole left activity ⌝ }
+{
+    let mut count = 0;
+    let mut at = 0;
+    while at < words.len() {
+        let word = words[at];
+        at += 1;
+        if (word >> activity) % 2 == 0 {
+            continue;
+        }
+        if is_usable(word, whole, left) {
+            count += 1;
+        }
+    }
+    count
+}
+
+// An activity that the fewest words can cover.
+fn rarest_of(words: &[u32], whole: u32, left: u32) -> u32
+    requires { ⌜ 0 < left ⌝ }
+    ensures { λ r. ⌜ Fewest (now (words .entry)) whole left r ⌝ }
+{
+    let mut rarest = highest_of(left);
+    let mut fewest = choices_of(words, whole, left, rarest);
+    let mut next = 0;
+    while next < 32 {
+        let activity = next;
+        next += 1;
+        if (left >> activity) % 2 == 0 {
+            continue;
+        }
+        let count = choices_of(words, whole, left, activity);
+        if count < fewest {
+            rarest = activity;
+            fewest = count;
+        }
+    }
+    rarest
+}
+
+// The activity to cover next, by the tally where it tells. The search ends here where no word can cover some activity, and where every activity has a
+// choice of three or more but the words are not balanced.
+pub fn choose(words: &[u32], whole: u32, left: u32) -> Choice
+    requires { ⌜ 0 < left ⌝ }
+    ensures { λ r. ⌜ Chosen (now (words .entry)) whole left r ⌝ }
+{
+    let tally = tally_of(words, whole, left);
+    if tally.once != left {
+        return Choice::Uncoverable;
+    }
+    if tally.twice != left {
+        return Choice::Activity(highest_of(left - tally.twice));
+    }
+    if tally.thrice != left {
+        return Choice::Activity(highest_of(left - tally.thrice));
+    }
+    if !is_balanced(words, whole, left) {
+        return Choice::Uncoverable;
+    }
+    Choice::Activity(rarest_of(words, whole, left))
+}

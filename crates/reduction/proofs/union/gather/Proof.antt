@@ -1,0 +1,58 @@
+-- `reduction::union::gather` meets its contract. The loop's invariant: the words before the index that can be parts stand in front of the buffer. The
+-- measure is what is left of the words.
+-- Assumes nothing.
+use Prim.Native.Nat.{_-_}
+use native.Mathlib.Omega.{arith}
+use mathlib.Core.Path.{sym, _∙_}
+use borrow.Author.Needs.{needs}
+use borrow.Author.Tests.{not-true, not-false}
+use lib.ListN.{length}
+use Rattle.redundancy.specs.Cover.{usable, partsOf}
+use Rattle.reduction.specs.Gathering.{GatheredAs}
+use Rattle.reduction.proofs.laws.KeptWords.{KeptSo, none-kept, drop-next, keep-next, no-room, all-kept}
+use Rattle.reduction.proofs.union.gather.Statement.{statement}
+use Rattle.reduction.proofs.union.gather.Tie as tie
+
+abbrev Inv-loop : tie.InvT-loop
+Inv-loop words whole parts₀ count₀ at₀ parts count at = KeptSo (usable whole whole) words parts₀ parts count at
+
+abbrev μ-loop : tie.MeasureT-loop
+μ-loop words whole parts₀ count₀ at₀ parts count at = length words - at
+
+pub gather-spec : {M : Type 1} → statement M
+unfolding GatheredAs partsOf
+gather-spec =
+    tie.close
+    (tie.spec
+    Inv-loop
+    μ-loop
+    (λ c. none-kept)  -- loop-holds
+    (λ c. omega arith)  -- mul-word
+    (λ c. omega arith)  -- shared-slice-read-word
+    (λ c. omega arith)  -- add-at
+    (λ c κs. search needs)  -- is-usable-requires
+    (λ c. omega arith)  -- loop-less
+    (λ c.
+    drop-next
+    (c .before .before .before .before .loop .inv)
+    (c .before .before .before .loop-test .taken)
+    (sym (c .before .is-usable .ensures) ∙ not-true _ (c .if1 .taken)))  -- loop-again
+    (λ c. c .before .before .before .before .before .loop .inv .room)  -- same-length
+    (λ c.
+    no-room
+    (c .before .before .before .before .before .loop .inv)
+    (c .before .before .before .before .loop-test .taken)
+    (sym (c .before .before .is-usable .ensures) ∙ not-false _ (c .before .if1 .left))
+    (c .if2 .taken))  -- returns
+    (λ c. omega (arith, c .before .before .before .before .before .loop .inv .few))  -- mul-parts
+    (λ c. c .if2 .left)  -- slice-write-parts
+    (λ c. omega (arith, c .if2 .left))  -- add-count
+    (λ c. omega arith)  -- loop-less-2
+    (λ c.
+    keep-next
+    (c .before .before .before .before .before .loop .inv)
+    (c .before .before .before .before .loop-test .taken)
+    (sym (c .before .before .is-usable .ensures) ∙ not-false _ (c .before .if1 .left))
+    (c .if2 .left))  -- loop-again-2
+    (λ c. c .before .loop .inv .room)  -- same-length-2
+    (λ c. all-kept (c .before .loop .inv) (c .loop-test .left)))
