@@ -2,6 +2,7 @@
 -- Assumes nothing.
 use Prim.Native.Nat.{ℕ}
 use mathlib.Core.Path.{_≡_, refl}
+use mathlib.Core.Bool.{true, false}
 use mathlib.Core.List.{List, [], _∷_, _++_, map, List·Memᴰ·head, List·Memᴰ·tail}
 use lib.Dec.{lit≤}
 use Rattle.foundation.specs.Lists.{each-nil, each-cons}
@@ -10,6 +11,7 @@ use Rattle.places.specs.Places.{place, word}
 use Rattle.places.proofs.Examples.{figure1}
 use Rattle.redundancy.specs.declared.Reduced.the-variants.{Kept, Refused}
 use Rattle.redundancy.specs.Unions.{UnionOf}
+use Rattle.redundancy.specs.Cover.{usable, partsOf, choices, balanced}
 use Rattle.redundancy.specs.Reduction.{reducedWords, reduced, reducedAfter}
 use Rattle.redundancy.proofs.Opened.{opened}
 
@@ -50,6 +52,17 @@ pub record Examples : Type 0 where
   pub place-before-room : reduced (pair 1 1 ∷ pair 1 0 ∷ []) 1 ≡ Refused (InvalidPlace 1)
   pub tail-kept : reducedAfter three (9 ∷ 9 ∷ 9 ∷ 8 ∷ 7 ∷ []) ≡ pair 1 1 ∷ pair 2 2 ∷ pair 4 4 ∷ 8 ∷ 7 ∷ []
   pub refused-as-found : reducedAfter three (9 ∷ 9 ∷ 9 ∷ []) ≡ 9 ∷ 9 ∷ 9 ∷ []
+  -- a part has activities that are left alone, and is not the whole
+  pub part : usable (pair 7 7) (pair 6 6) (pair 2 4) ≡ true
+  pub taken : usable (pair 7 7) (pair 6 6) (pair 1 2) ≡ false
+  pub itself : usable (pair 7 7) (pair 7 7) (pair 7 7) ≡ false
+  pub parts : partsOf (pair 8 1 ∷ three) (pair 7 7) ≡ pair 1 1 ∷ pair 2 2 ∷ pair 4 4 ∷ []
+  pub choice : choices (pair 3 1 ∷ three) (pair 7 7) (pair 7 7) 0 ≡ 2
+  pub no-choice : choices three (pair 7 7) (pair 6 6) 0 ≡ 0
+  -- single pairs make up as many inputs as outputs, and no more
+  pub evenly : balanced three (pair 7 7) (pair 7 7) ≡ true
+  pub one-input-more : balanced three (pair 15 7) (pair 15 7) ≡ false
+  pub one-output-more : balanced three (pair 7 15) (pair 7 15) ≡ false
 
 pub examples : Examples
 unfolding opened
@@ -87,4 +100,13 @@ examples =
       place-before-room = refl;
       tail-kept = refl;
       refused-as-found = refl;
+      part = refl;
+      taken = refl;
+      itself = refl;
+      parts = refl;
+      choice = refl;
+      no-choice = refl;
+      evenly = refl;
+      one-input-more = refl;
+      one-output-more = refl;
     }

@@ -1,9 +1,11 @@
 -- One name for all definitions of this layer and of those below it: a proof by computation says `unfolding opened`.
 -- Assumes nothing.
+use lib.Count.{ones}
 use Rattle.redundancy.specs.Unions.{joinAll, samePlace, compose, isUnion}
+use Rattle.redundancy.specs.Cover.{usable, partsOf, choices, manyInputs, fewInputs, balanced}
 use Rattle.redundancy.specs.Reduction.{redundant, reducedWords, reductionRefusal, reduced, reducedAfter}
 use Rattle.places.proofs.Opened.{opened as opened-places}
 
 unfoldable pub opened : Unit {0}
-unfolding joinAll samePlace compose isUnion redundant reducedWords reductionRefusal reduced reducedAfter opened-places
+unfolding joinAll samePlace compose isUnion usable partsOf choices manyInputs fewInputs balanced ones redundant reducedWords reductionRefusal reduced reducedAfter opened-places
 opened = tt
