@@ -4,7 +4,7 @@ mod cases; // cases.rt: a line of input, its case run and compared
 mod lists; // lists.rt: the words of a list
 
 fn main() {
-    let mut input = [0u8; 32768];
+    let mut input = [0u8; 65536];
     let count = io::read_full(0, &mut input);
     cases::run_lines(&input[..count]);
 }

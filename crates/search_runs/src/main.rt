@@ -7,7 +7,7 @@ mod runs; // runs.rt: the search called on filled buffers
 mod words; // words.rt: the words of rejected places
 
 fn main() {
-    let mut input = [0u8; 32768];
+    let mut input = [0u8; 65536];
     let count = io::read_full(0, &mut input);
     cases::run_lines(&input[..count]);
 }
