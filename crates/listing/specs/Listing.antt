@@ -16,8 +16,8 @@ use Rattle.redundancy.specs.Reduction.{reduced, reducedAfter}
 use Rattle.listing.specs.declared.Listing.{Listing}
 use Rattle.listing.specs.declared.Listing.the-variants.{Refused, Incomplete, Complete}
 
--- what a call is given to work with: the cache of rejected places (shelf), the list, the buffer for the reduced list, each with what it holds, and the replay budget
--- (allowance)
+-- what a call is given to work with: the cache of rejected places (shelf), the list and the buffer for the reduced list, each with what it holds,
+-- and the replay budget (allowance)
 pub record Resources : Type 0 where
   pub rejected : List ℕ
   pub found : List ℕ

@@ -1,4 +1,5 @@
--- The words that can be parts of a place, gathered in a buffer: all of them from its front, or none of that where they are more than it takes.
+-- The words that can be parts of a place, gathered in a buffer: all of them from its front, and then what it held beyond them. Where they are more
+-- than it takes, what it holds is free: it is not read again.
 -- Assumes nothing.
 use Prim.Native.Nat.{ℕ, _<_}
 use mathlib.Core.Path.{_≡_}

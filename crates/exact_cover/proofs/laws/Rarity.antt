@@ -1,6 +1,7 @@
 -- The choice of the activity to cover next from what was tallied. Activities that some word can cover are left, since such a word is a part of what
 -- is left. So where they are not all that is left there is no cover; and else an activity that is not among those that two words can cover has
--- exactly one choice, and no activity that is left has fewer. Likewise with two. Where the tally does not tell, the choices of every activity are counted.
+-- exactly one choice, and no activity that is left has fewer. Likewise with two. Where the tally does not tell, the choices of every activity are
+-- counted.
 -- Assumes nothing.
 use Prim.Native.Nat.{ℕ, _+_, _-_, _^_, _≤_, _<_, min}
 use native.Mathlib.Omega.{arith}
@@ -45,7 +46,7 @@ module _ (words : List ℕ) (whole left : ℕ) where
 -- what was tallied, and with it what is left
 module _ {words : List ℕ} {whole left : ℕ} where
   module _ {t : Tally} (h : Tallied words whole left t) where
-    pub once-part : Part (t .once) left
+    once-part : Part (t .once) left
     once-part = bits-part (t .once) left λ a. omega (arith, h .once a, left-first words whole left a)
 
     pub twice-part : Part (t .twice) left
