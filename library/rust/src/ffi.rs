@@ -10,7 +10,8 @@
 //! - `value` and the results are locals of the public function, each its own, initialised before the call.
 //!
 //! The archive keeps no pointer and has no state, so nothing is asked of threads or of the time after a call. What it writes are integers,
-//! of which every value is allowed. It does not unwind.
+//! of which every value is allowed. It does not unwind. On a stack that is too small the program ends, as in Rust: compiled code touches each
+//! page of a large frame in turn, so that it meets the guard page.
 
 extern "C" {
     pub fn placelist_check(
