@@ -1,28 +1,12 @@
--- The definitions of the writer and of placelist, tried on small lists and on input that is refused.
+-- The definitions of placelist, tried on a small list and on input that is refused.
 -- Assumes nothing.
-use Prim.Native.Nat.{ℕ}
 use mathlib.Core.Path.{_≡_, refl}
-use mathlib.Core.List.{List, [], _∷_}
+use mathlib.Core.List.{[], _∷_}
 use lib.ListN.{replicate}
 use Rattle.foundation.specs.Text.{bytes}
-use Rattle.limits.specs.declared.Refusal.the-variants.{InvalidPlace, BufferTooSmall}
 use Rattle.candidate_search.specs.Search.{State, going, stopped}
-use Rattle.report.specs.declared.Written.the-variants.{Bytes, Refused}
-use Rattle.report.specs.Writing.{written, writtenAfter}
 use Rattle.report.specs.Program.{capacity, report, placelist}
 use Rattle.report.proofs.Opened.{opened}
-
--- 0001/0002, FFFE/00A0
-abbrev words : List ℕ
-words = 0x00020001 ∷ 0x00A0FFFE ∷ []
-
-pub record WritingExamples : Type 0 where
-  pub answers : written words 18 ≡ Bytes 18
-  pub lines : writtenAfter words (replicate 20 33) ≡ bytes "00010002\nFFFE00A0\n!!"
-  pub none : written [] 0 ≡ Bytes 0
-  pub too-short : written words 17 ≡ Refused BufferTooSmall
-  pub place-before-room : written (0x00020001 ∷ 0x00A00000 ∷ []) 0 ≡ Refused (InvalidPlace 1)
-  pub refused-as-found : writtenAfter words (1 ∷ 2 ∷ []) ≡ 1 ∷ 2 ∷ []
 
 -- a run that found 1/1, 2/2 and both together in 255 replays and 4,096 visits
 abbrev state : State
@@ -51,18 +35,6 @@ pub record ProgramExamples : Type 0 where
   pub no-log : placelist (bytes "0201010000\n") ≡ bytes "FF0600000000\n"
   pub second-line : placelist (bytes "0201010000\n00010001\n00010201\n") ≡ bytes "FF0300000001\n"
   pub settings-in-order : placelist (bytes "02010203E8\n00010001\n") ≡ bytes "00010001\n00020001\n00010003\n00020003\n00010002\n00020002\n000000000600000006\n"
-
-pub writing-examples : WritingExamples
-unfolding opened
-writing-examples =
-    record {
-      answers = refl;
-      lines = refl;
-      none = refl;
-      too-short = refl;
-      place-before-room = refl;
-      refused-as-found = refl;
-    }
 
 pub program-examples : ProgramExamples
 unfolding opened

@@ -1,10 +1,10 @@
 -- One name for all definitions of this layer and of those below it: a proof by computation says `unfolding opened`.
 -- Assumes nothing.
-use Rattle.report.specs.Writing.{placeLine, listText, writingRefusal, written, writtenAfter}
 use Rattle.report.specs.Program.{capacity, settingsMalformed, settingsIn, logIn, programRefusal, refusalLine, resultLine, reportedWords, report, placelist}
 use Rattle.candidate_search.proofs.Opened.{opened as opened-search}
 use Rattle.redundancy.proofs.Opened.{opened as opened-reduction}
+use Rattle.writer.proofs.Opened.{opened as opened-writing}
 
 unfoldable pub opened : Unit {0}
-unfolding placeLine listText writingRefusal written writtenAfter capacity settingsMalformed settingsIn logIn programRefusal refusalLine resultLine reportedWords report placelist opened-search opened-reduction
+unfolding capacity settingsMalformed settingsIn logIn programRefusal refusalLine resultLine reportedWords report placelist opened-search opened-reduction opened-writing
 opened = tt

@@ -15,7 +15,7 @@ use Rattle.hex_digits.specs.Digits.{isDigit, readHex, writeHex, lineFeed}
 use Rattle.candidate_search.specs.Search.{Capacity, holding, Progress, endOf, stateOf}
 use Rattle.candidate_search.specs.Discovery.{run, runRefusal}
 use Rattle.redundancy.specs.Reduction.{reducedWords}
-use Rattle.report.specs.Writing.{listText}
+use Rattle.writer.specs.Writing.{listText}
 
 -- the most bytes that it reads
 abbrev pub mostInput : ℕ

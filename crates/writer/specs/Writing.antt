@@ -10,8 +10,8 @@ use Rattle.limits.specs.declared.Refusal.{Refusal}
 use Rattle.limits.specs.Refusals.{answer}
 use Rattle.places.specs.Places.{placeOf, wordsRefusal}
 use Rattle.hex_digits.specs.Digits.{writeHex, lineFeed}
-use Rattle.report.specs.declared.Written.{Written}
-use Rattle.report.specs.declared.Written.the-variants.{Bytes, Refused}
+use Rattle.writer.specs.declared.Written.{Written}
+use Rattle.writer.specs.declared.Written.the-variants.{Bytes, Refused}
 
 -- the line of a place: four digits of inputs, four of outputs, a line feed
 unfoldable pub placeLine : ℕ → List ℕ
