@@ -1,8 +1,65 @@
 // Writing a list of places as text: document 01, "Thinning and writing", the writer.
+ghost use mathlib.Core.Path.{_≡_};
+ghost use Prim.Native.Nat.{_*_, _≤_};
+ghost use lib.ListN.{length};
+ghost use Rattle.foundation.specs.Buffers.{overwrite};
+ghost use Rattle.writer.specs.Writing.{placeLine, listText, written, writtenAfter};
+use crate::hex::write_hex;
 use limits::Refusal;
+use places::list::first_invalid;
+use places::place_of;
+
+pub mod hex; // hex.rt: numbers in digits
+
+// The bytes of a place's line: four digits of inputs, four of outputs, a line feed.
+const LINE_BYTES: usize = 9;
 
 // What writing a list answers: the bytes written, or the refusal.
 pub enum Written {
     Bytes(usize),
     Refused(Refusal),
+}
+
+// Writes the line of a place into its 9 bytes.
+fn write_line(word: u32, line: &mut [u8])
+    requires { ⌜ length (now line) ≡ 9 ⌝ }
+    ensures { λ _. ⌜ now (line .exit) ≡ placeLine word ⌝ }
+{
+    let place = place_of(word);
+    write_hex(place.inputs as u64, &mut line[0..4]);
+    write_hex(place.outputs as u64, &mut line[4..8]);
+    line[8] = b'\n';
+}
+
+// Writes the lines of a list from the front of a buffer that has room for them, and answers their bytes.
+pub fn write_lines(words: &[u32], text: &mut [u8]) -> usize
+    requires { ⌜ 9 * length (now words) ≤ length (now text) ⌝ }
+    ensures count { λ r. ⌜ r ≡ length (listText (now (words .entry))) ⌝ }
+    ensures text { λ _. ⌜ now (text .exit) ≡ overwrite (listText (now (words .entry))) (now (text .entry)) ⌝ }
+{
+    let mut count = 0;
+    let mut at = 0;
+    while at < words.len() {
+        let next = count + LINE_BYTES;
+        write_line(words[at], &mut text[count..next]);
+        count = next;
+        at += 1;
+    }
+    count
+}
+
+// Document 01's writer: gives each list word as four digits of I, four of O and a line feed, and answers the bytes written. A refusal leaves the
+// buffer as it was, and a longer buffer keeps its tail. The bytes of a list may be more than a number holds, so the room is divided.
+pub fn write_places(words: &[u32], text: &mut [u8]) -> Written
+    ensures answer { λ r. ⌜ r ≡ written (now (words .entry)) (length (now (text .entry))) ⌝ }
+    ensures text { λ _. ⌜ now (text .exit) ≡ writtenAfter (now (words .entry)) (now (text .entry)) ⌝ }
+{
+    let invalid = first_invalid(words);
+    if invalid < words.len() {
+        return Written::Refused(Refusal::InvalidPlace { index: invalid });
+    }
+    if text.len() / LINE_BYTES < words.len() {
+        return Written::Refused(Refusal::BufferTooSmall);
+    }
+    Written::Bytes(write_lines(words, text))
 }

@@ -1,0 +1,5 @@
+pub mod DigitsFromBack
+pub mod BufferParts
+pub mod PlaceLines
+pub mod LineByLine
+pub mod Refusals
