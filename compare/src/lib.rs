@@ -1,4 +1,5 @@
 //! A second implementation of the written scope, and what is needed to hold the proved one to it:
 //! generators of inputs, and comparisons of every call.
 
+pub mod generate;
 pub mod model;
