@@ -28,6 +28,12 @@ impl Random {
         least + self.below(most - least + 1)
     }
 
+    /// A number from 0 to one of the bounds, that one included.
+    pub fn up_to_one_of(&mut self, bounds: &[usize]) -> usize {
+        let most = self.pick(bounds);
+        self.between(0, most)
+    }
+
     /// True in so many of a hundred cases.
     pub fn chance(&mut self, percent: usize) -> bool {
         self.below(100) < percent
