@@ -4,3 +4,5 @@
 pub mod comparison;
 pub mod generate;
 pub mod model;
+pub mod table;
+pub mod timing;

@@ -36,9 +36,9 @@ impl Process {
             .filter(|part| !part.is_empty())
             .map(|part| Process::random(random, part))
             .collect();
-        match random.below(5) {
-            0 | 1 => Process::Sequence(parts),
-            2 | 3 => Process::Choice(parts),
+        match random.below(6) {
+            0..=2 => Process::Sequence(parts),
+            3 | 4 => Process::Choice(parts),
             _ => Process::Concurrent(parts),
         }
     }
