@@ -77,7 +77,7 @@ pub fn random_place(random: &mut Random, activities: u8) -> Place {
     }
 }
 
-/// Any place, seldom a valid one for a low bound.
+/// Any place, seldom a valid one for a small bound.
 pub fn any_place(random: &mut Random) -> Place {
     let set = |random: &mut Random| match random.below(3) {
         0 => 0,

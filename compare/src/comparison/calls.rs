@@ -100,8 +100,8 @@ impl Comparison {
         let expected = of_model(model::judge(activities, threshold, text, place));
         let mut given = Guarded::copy(text, b'0');
         let before = given.clone();
-        let lent = given.inside();
-        let answer = placelist::judge(activities, threshold, lent, library_place(place));
+        let its_text = given.inside();
+        let answer = placelist::judge(activities, threshold, its_text, library_place(place));
         let actual = of_library(answer);
         let same = actual == expected && given == before;
         self.reach("judge", &expected, "answered");
@@ -132,9 +132,9 @@ impl Comparison {
         let mut given = Guarded::copy(text, b'0');
         let before = given.clone();
         let (room, list) = (its_rejected.inside(), its_found.inside());
-        let lent = given.inside();
+        let its_text = given.inside();
         let its_settings = library_settings(settings);
-        let answer = placelist::search(its_settings, lent, sizes.budget, room, list);
+        let answer = placelist::search(its_settings, its_text, sizes.budget, room, list);
         let actual = of_library(answer);
         let same_buffers = its_rejected == rejected && its_found == found && given == before;
         let same = actual == expected && same_buffers;

@@ -15,12 +15,12 @@ pub fn ordered_sets(activities: u8, most: u8) -> Vec<Entry> {
     entries
 }
 
-/// Appends the sets that add one or more codes from `lowest` on to `set`.
-fn extend(entries: &mut Vec<Entry>, set: u16, lowest: u8, activities: u8, room: u8) {
+/// Appends the sets that add one or more codes from `first` on to `set`.
+fn extend(entries: &mut Vec<Entry>, set: u16, first: u8, activities: u8, room: u8) {
     if room == 0 {
         return;
     }
-    for code in lowest..activities {
+    for code in first..activities {
         let position = entries.len();
         let longer = set | 1 << code;
         entries.push(Entry {
