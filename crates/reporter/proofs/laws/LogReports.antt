@@ -1,0 +1,38 @@
+-- What is written of a log, from the answer and the buffers of its listing: the line of the refusal, or the words to report and the line of the run. With a
+-- list of 4,096 words there are no more words than that.
+-- Assumes nothing.
+use Prim.Native.Nat.{ℕ, _+_, _*_, _≤_}
+use native.Mathlib.Omega.{arith}
+use mathlib.Core.Path.{_≡_, sym, ap, _∙_}
+use mathlib.Core.List.{List, _++_}
+use mathlib.Core.Option.{some}
+use lib.ListN.{length, take}
+use Rattle.limits.specs.declared.Refusal.{Refusal}
+use Rattle.limits.specs.declared.Settings.{Settings}
+use Rattle.candidate_search.specs.declared.Run.{Run}
+use Rattle.candidate_search.specs.Discovery.{run, runRefusal}
+use Rattle.writer.specs.Writing.{listText}
+use Rattle.report.specs.Program.{capacity, refusalLine}
+use Rattle.reporter.specs.Reporting.{runLine, logReport, mostOutput}
+use Rattle.reporter.proofs.laws.OutputRoom.{report-parts}
+use Rattle.reporter.proofs.laws.RunListed.{Reports, reported-fits}
+
+pub refused-report : (s : Settings) (text : List ℕ) {r : Refusal} → runRefusal s text ≡ some r → logReport s text ≡ refusalLine r
+unfolding logReport
+refused-report s text e = rw e
+
+module _ {s : Settings} {text : List ℕ} {x : Run} {count : ℕ} {buffer : List ℕ} (r : Reports s text capacity x count buffer) where
+  pub run-report : logReport s text ≡ listText (take count buffer) ++ runLine x
+  unfolding logReport
+  run-report = rw (r .passes, r .own, r .these) (report-parts (run s text capacity))
+
+  -- the words are there, and fit
+  pub all-taken : count ≡ length (take count buffer)
+  all-taken = r .counted ∙ ap length (sym (r .these))
+
+  pub count-fits : count ≤ 4096
+  unfolding capacity
+  count-fits = omega (arith, r .counted, reported-fits s text capacity (r .passes))
+
+  pub report-fits : {room : ℕ} → mostOutput ≤ room → 9 * length (take count buffer) + 19 ≤ room
+  report-fits enough = omega (arith, all-taken, count-fits)

@@ -1,0 +1,67 @@
+-- `reporter::lines::write_refusal` meets its contract: the digits of FF, of the number and of the value, and the line feed are the line.
+-- Assumes nothing.
+use borrow.Author.Needs.{needs}
+use native.Mathlib.Omega.{arith}
+use mathlib.Core.Path.{sym, ap, _∙_}
+use lib.ListN.{length}
+use Rattle.report.specs.Program.{refusalLine}
+use Rattle.reporter.proofs.laws.LineParts.{overwrite-length, line-put}
+use Rattle.reporter.proofs.laws.OutputRoom.{length-refusal}
+use Rattle.reporter.proofs.lines.write_refusal.Statement.{statement}
+use Rattle.reporter.proofs.lines.write_refusal.Tie as tie
+
+returns : tie.Need-returns
+unfolding refusalLine
+returns c =
+    let third = c .before .before in
+    let value = third .before .before in
+    let second = value .before .before .before in
+    let number = second .before .before in
+    let first = number .before .before .before in
+    let entry = first .before .before .before in (
+      sym (length-refusal (entry .args .refusal)),
+      line-put
+          (entry .args .output .now)
+          _
+          _
+          _
+          2
+          2
+          8
+          (entry .pre)
+          _
+          _
+          _
+          (first .write-hex .ensures)
+          (rw (number .number-of .ensures) at (second .write-hex2 .ensures))
+          (rw (value .value-of .ensures) at (third .write-hex3 .ensures)),
+    )
+
+same-length : tie.Need-same-length
+same-length c =
+    let entry = c .before .before .before .before .before .before .before .before .before .before .before .before .before .before .before in
+    ap length (returns c .1)
+    ∙ overwrite-length (entry .args .output .now) (refusalLine (entry .args .refusal)) (omega (arith, length-refusal (entry .args .refusal)))
+
+pub write-refusal-spec : {M : Type 1} → statement M
+write-refusal-spec =
+    tie.close
+    (tie.spec
+    (λ c. search needs)  -- sub-write-hex
+    (λ c. search needs)  -- part-write-hex-start
+    (λ c. search needs)  -- part-write-hex-end
+    (λ c κs. search needs)  -- write-hex-requires
+    (λ c κs. search needs)  -- number-of-requires
+    (λ c. search needs)  -- cast-write-hex
+    (λ c. search needs)  -- sub-write-hex-2
+    (λ c. search needs)  -- part-write-hex-start-2
+    (λ c. search needs)  -- part-write-hex-end-2
+    (λ c κs. search needs)  -- write-hex-requires-2
+    (λ c κs. search needs)  -- value-of-requires
+    (λ c. search needs)  -- sub-write-hex-3
+    (λ c. search needs)  -- part-write-hex-start-3
+    (λ c. search needs)  -- part-write-hex-end-3
+    (λ c κs. search needs)  -- write-hex-requires-3
+    (λ c. search needs)  -- slice-write-output
+    same-length
+    returns)
