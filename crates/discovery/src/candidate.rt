@@ -6,7 +6,6 @@ ghost use Rattle.log_format.specs.Frames.{WrittenLog};
 ghost use Rattle.log_format.specs.Lines.{framesOf};
 ghost use Rattle.balances.specs.Judgement.{verdict};
 ghost use Rattle.discovery.specs.declared.Ruling.the-variants.{Unruled};
-ghost use Rattle.candidate_search.specs.Rejected.{mark};
 ghost use Rattle.discovery.specs.Rulings.{rulingOf};
 ghost use Rattle.candidate_search.specs.Search.{conclude, visit};
 ghost use Rattle.candidate_search.specs.Discovery.{capacityOf};
@@ -14,23 +13,12 @@ ghost use Rattle.discovery.specs.Standing.{stateIn, Stands, Leaves, prun
 use crate::Ruling;
 use crate::Turn;
 use crate::cache::ruling_by;
+use crate::mark_of;
 use balances::Verdict;
 use candidate_search::Run;
 use places::Place;
 use places::word_of;
 use replay::verdict_over;
-
-// The mark of a verdict, 0 of fitting.
-fn mark_of(verdict: Verdict) -> u8
-    ensures { λ r. ⌜ r ≡ mark verdict ⌝ }
-{
-    match verdict {
-        Verdict::Fitting => 0,
-        Verdict::Underfed => 1,
-        Verdict::Overfed => 2,
-        Verdict::Both => 3,
-    }
-}
 
 // What follows the replay of a candidate that no word ruled: it is found, or its word goes where there is room among the rejected. Only a word
 // that was kept can prune, and then by its own mark.

@@ -1,7 +1,9 @@
 // The search over candidates for the places that a log fits: document 01, "The walk".
 ghost use mathlib.Core.Path.{_≡_};
+ghost use Rattle.candidate_search.specs.Rejected.{mark};
 ghost use Rattle.candidate_search.specs.Discovery.{discovered, capacityOf, foundAfter, rejectedAfter};
 use crate::search::search_from;
+use balances::Verdict;
 use candidate_search::Discovered;
 use candidate_search::Run;
 use event_log::check_log;
@@ -32,6 +34,18 @@ pub struct Turn {
 pub struct Position {
     pub run: Run,
     pub candidate: Place,
+}
+
+// The mark of a verdict, 0 of fitting.
+pub fn mark_of(verdict: Verdict) -> u8
+    ensures { λ r. ⌜ r ≡ mark verdict ⌝ }
+{
+    match verdict {
+        Verdict::Fitting => 0,
+        Verdict::Underfed => 1,
+        Verdict::Overfed => 2,
+        Verdict::Both => 3,
+    }
 }
 
 // Searches the candidates in their order for those that the log fits, with the room of two buffers and a budget of replays. The words of found

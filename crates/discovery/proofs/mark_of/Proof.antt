@@ -1,9 +1,9 @@
--- `discovery::candidate::mark_of` meets its contract: each arm knows the verdict, and has its mark.
+-- `discovery::mark_of` meets its contract: each arm knows the verdict, and has its mark.
 -- Assumes nothing.
 use borrow.Author.Needs.{needs}
 use Rattle.candidate_search.specs.Rejected.{mark}
-use Rattle.discovery.proofs.candidate.mark_of.Statement.{statement}
-use Rattle.discovery.proofs.candidate.mark_of.Tie as tie
+use Rattle.discovery.proofs.mark_of.Statement.{statement}
+use Rattle.discovery.proofs.mark_of.Tie as tie
 
 pub mark-of-spec : {M : Type 1} → statement M
 unfolding mark
