@@ -1,0 +1,109 @@
+-- What each call answers and leaves, tried on one that is not refused and one that is. The places for results hold 7, 8 and 9 before.
+-- Assumes nothing.
+use Prim.Native.Nat.{ℕ}
+use mathlib.Core.Path.{_≡_, refl}
+use mathlib.Core.List.{List, [], _∷_, map}
+use mathlib.Core.Option.{Option}
+use lib.IntN.{pos, negsuc}
+use Rattle.foundation.specs.Text.{bytes}
+use Rattle.limits.specs.declared.Refusal.{Refusal}
+use Rattle.balances.specs.declared.Replayed.{Replayed}
+use Rattle.balances.specs.declared.Judged.{Judged}
+use Rattle.candidate_search.specs.declared.Discovered.{Discovered}
+use Rattle.redundancy.specs.declared.Reduced.{Reduced}
+use Rattle.places.specs.Places.{place, word}
+use Rattle.log_format.specs.Checking.{checked}
+use Rattle.balances.specs.Answers.{replayed, judged}
+use Rattle.candidate_search.specs.Search.{holding}
+use Rattle.candidate_search.specs.Discovery.{discovered}
+use Rattle.redundancy.specs.Reduction.{reduced}
+use Rattle.capi.specs.Settings.{settingsOf}
+use Rattle.capi.specs.Refused.{numberGiven, valueGiven, refusalInChecked, refusalInReplayed, refusalInJudged, refusalInDiscovered, refusalInReduced}
+use Rattle.capi.specs.Results.{sizesAfter, leastAfter, lastAfter, countsAfter, verdictAfter, runAfter, keptCountAfter}
+use Rattle.capi.proofs.Opened.{opened}
+
+-- the number that a call answers, then the value beside it
+abbrev said : Option Refusal → List ℕ
+said refusal = numberGiven refusal ∷ valueGiven refusal ∷ []
+
+-- two cases go by 2, and one by 3
+abbrev log : List ℕ
+log = bytes "0002000201\n0001000301\n"
+
+abbrev checking : ℕ → List ℕ
+checking A = said (refusalInChecked (checked A log))
+
+-- 2 puts a token in too late for 0, which takes one out
+abbrev late : Replayed
+late = replayed 4 log (place 4 1)
+
+abbrev noPlace : Replayed
+noPlace = replayed 4 log (place 0 1)
+
+-- from 2 to the end: a case in three is underfed
+abbrev judging : ℕ → Judged
+judging T = judged 4 T log (place 4 2)
+
+abbrev searching : ℕ → Discovered
+searching A = discovered (settingsOf A 3 1 0) (bytes "00010001\n") (holding 9 9 99)
+
+-- the third place is the union of the others
+abbrev reducing : ℕ → Reduced
+reducing room = reduced (word (place 1 2) ∷ word (place 4 4) ∷ word (place 5 6) ∷ []) room
+
+pub record Examples : Type 0 where
+  pub checks : checking 4 ≡ 0 ∷ 0 ∷ []
+  pub sizes : sizesAfter (checked 4 log) (7 ∷ 8 ∷ []) ≡ 2 ∷ 3 ∷ []
+  -- the second line names an activity that three do not have
+  pub check-refused : checking 3 ≡ 3 ∷ 1 ∷ []
+  pub sizes-as-found : sizesAfter (checked 3 log) (7 ∷ 8 ∷ []) ≡ 7 ∷ 8 ∷ []
+  pub replays : said (refusalInReplayed late) ≡ 0 ∷ 0 ∷ []
+  pub least : leastAfter late (pos 7) ≡ negsuc 0
+  pub last : lastAfter late (pos 7) ≡ pos 0
+  pub replay-refused : said (refusalInReplayed noPlace) ≡ 7 ∷ 0 ∷ []
+  pub least-as-found : leastAfter noPlace (pos 7) ≡ pos 7
+  pub last-as-found : lastAfter noPlace (pos 7) ≡ pos 7
+  pub judges : said (refusalInJudged (judging 333)) ≡ 0 ∷ 0 ∷ []
+  pub counts : countsAfter (judging 333) (7 ∷ 7 ∷ 8 ∷ 8 ∷ []) ≡ 2 ∷ 1 ∷ 0 ∷ 0 ∷ []
+  pub verdicts : map (λ (T : ℕ). verdictAfter (judging T) 9) (333 ∷ 334 ∷ 1001 ∷ []) ≡ 1 ∷ 0 ∷ 9 ∷ []
+  pub judge-refused : said (refusalInJudged (judging 1001)) ≡ 1 ∷ 0 ∷ []
+  pub counts-as-found : countsAfter (judging 1001) (7 ∷ 7 ∷ 8 ∷ 8 ∷ []) ≡ 7 ∷ 7 ∷ 8 ∷ 8 ∷ []
+  pub searches : said (refusalInDiscovered (searching 3)) ≡ 0 ∷ 0 ∷ []
+  pub run : runAfter (searching 3) (7 ∷ 7 ∷ 8 ∷ 8 ∷ 9 ∷ []) ≡ 0 ∷ 3 ∷ 9 ∷ 12 ∷ 15 ∷ []
+  pub search-refused : said (refusalInDiscovered (searching 2)) ≡ 1 ∷ 0 ∷ []
+  pub run-as-found : runAfter (searching 2) (7 ∷ 7 ∷ 8 ∷ 8 ∷ 9 ∷ []) ≡ 7 ∷ 7 ∷ 8 ∷ 8 ∷ 9 ∷ []
+  pub reduces : said (refusalInReduced (reducing 3)) ≡ 0 ∷ 0 ∷ []
+  pub kept : keptCountAfter (reducing 3) 7 ≡ 2
+  pub reduce-refused : said (refusalInReduced (reducing 2)) ≡ 8 ∷ 0 ∷ []
+  pub kept-as-found : keptCountAfter (reducing 2) 7 ≡ 7
+  pub no-place-in-list : said (refusalInReduced (reduced (word (place 1 2) ∷ 5 ∷ []) 2)) ≡ 7 ∷ 1 ∷ []
+
+pub examples : Examples
+unfolding opened
+examples =
+    record {
+      checks = refl;
+      sizes = refl;
+      check-refused = refl;
+      sizes-as-found = refl;
+      replays = refl;
+      least = refl;
+      last = refl;
+      replay-refused = refl;
+      least-as-found = refl;
+      last-as-found = refl;
+      judges = refl;
+      counts = refl;
+      verdicts = refl;
+      judge-refused = refl;
+      counts-as-found = refl;
+      searches = refl;
+      run = refl;
+      search-refused = refl;
+      run-as-found = refl;
+      reduces = refl;
+      kept = refl;
+      reduce-refused = refl;
+      kept-as-found = refl;
+      no-place-in-list = refl;
+    }

@@ -1,0 +1,33 @@
+-- `capi::placelist_replay` meets its contract: it hands on what the replay answers, by cases.
+-- Assumes nothing.
+use mathlib.Core.Path.{refl, sym, _∙_}
+use mir.Syntax.{w16}
+use mir.ValLaws.{toZ-ofZ}
+use borrow.Author.Needs.{needs}
+use Rattle.capi.specs.Refused.{numberGiven, valueGiven, refusalInReplayed}
+use Rattle.capi.specs.Results.{leastAfter, lastAfter}
+use Rattle.capi.proofs.placelist_replay.Statement.{statement}
+use Rattle.capi.proofs.placelist_replay.Tie as tie
+
+returns : tie.Need-returns
+unfolding numberGiven valueGiven refusalInReplayed leastAfter lastAfter
+returns c =
+    let r = c .before .before .before in
+    rw (sym (r .before .before .replay-first-trace .ensures) ∙ r .refusal .given .1) (c .refuse .ensures .0, (c .refuse .ensures .1, (refl, refl)))
+
+returns-2 : tie.Need-returns-2
+unfolding numberGiven valueGiven refusalInReplayed leastAfter lastAfter
+returns-2 c =
+    let r = c .before in
+    rw (sym (r .before .before .replay-first-trace .ensures) ∙ r .lowest .given .1) (refl, (refl, (toZ-ofZ w16 _ (search needs), toZ-ofZ w16 _ (search needs))))
+
+pub placelist-replay-spec : {M : Type 1} → statement M
+placelist-replay-spec =
+    tie.close
+    (tie.spec
+    (λ c κs. search needs)  -- replay-first-trace-requires
+    (λ c. search needs)  -- enum-known-refusal
+    (λ c κs. search needs)  -- refuse-requires
+    (λ c. search needs)  -- enum-known-lowest
+    returns
+    returns-2)

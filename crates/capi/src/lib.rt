@@ -1,0 +1,205 @@
+// The calls for programs in other languages, over numbers and slices. Each answers the number of its refusal, or 0, and writes what document 01
+// returns beside the number to `value`, or 0. Its results are written only where it is not refused. In C a slice is a pointer and a length, and
+// what lies behind a `&mut` may overlap with nothing else that the call is given.
+ghost use mathlib.Core.Path.{_≡_};
+ghost use lib.ListN.{length};
+ghost use Rattle.limits.specs.Refusals.{number};
+ghost use Rattle.limits.specs.Refusals.{value as valueOf};
+ghost use Rattle.places.specs.Places.{place};
+ghost use Rattle.log_format.specs.Checking.{checked};
+ghost use Rattle.balances.specs.Answers.{replayed, judged};
+ghost use Rattle.candidate_search.specs.Discovery.{discovered, capacityOf, foundAfter, rejectedAfter};
+ghost use Rattle.redundancy.specs.Reduction.{reduced, reducedAfter};
+ghost use Rattle.capi.specs.Settings.{settingsOf};
+ghost use Rattle.capi.specs.Refused.{numberGiven, valueGiven};
+ghost use Rattle.capi.specs.Refused.{refusalInChecked, refusalInReplayed, refusalInJudged, refusalInDiscovered, refusalInReduced};
+ghost use Rattle.capi.specs.Results.{sizesAfter, leastAfter, lastAfter, countsAfter, verdictAfter, runAfter, keptCountAfter};
+use balances::Judged;
+use balances::Replayed;
+use candidate_search::Discovered;
+use discovery::discover;
+use discovery::mark_of;
+use event_log::check_log;
+use limits::Refusal;
+use limits::Settings;
+use limits::number_of;
+use limits::value_of;
+use log_format::Checked;
+use places::Place;
+use reduction::reduce;
+use redundancy::Reduced;
+use replay::judge_place;
+use replay::replay_first_trace;
+
+// The answer of a refused call: the refusal's number, with its value written.
+fn refuse(refusal: Refusal, value: &mut u64) -> u8
+    ensures number { λ r. ⌜ r ≡ number refusal ⌝ }
+    ensures value { λ _. ⌜ now (value .exit) ≡ valueOf refusal ⌝ }
+{
+    *value = value_of(refusal) as u64;
+    number_of(refusal)
+}
+
+// Checks a log: how many frames and cases it has.
+#[no_mangle]
+pub extern "C" fn placelist_check(
+    activities: u8,
+    text: &[u8],
+    value: &mut u64,
+    counts: &mut [u64; 2],
+) -> u8
+    ensures number { λ r. ⌜ r ≡ numberGiven (refusalInChecked (checked activities (now (text .entry)))) ⌝ }
+    ensures value { λ _. ⌜ now (value .exit) ≡ valueGiven (refusalInChecked (checked activities (now (text .entry)))) ⌝ }
+    ensures counts { λ _. ⌜ now (counts .exit) ≡ sizesAfter (checked activities (now (text .entry))) (now (counts .entry)) ⌝ }
+{
+    match check_log(activities, text) {
+        Checked::Refused(refusal) => refuse(refusal, value),
+        Checked::Accepted { frames, cases } => {
+            *value = 0;
+            *counts = [frames as u64, cases];
+            0
+        }
+    }
+}
+
+// Replays the first trace of a log on a place: the least and the last balance.
+#[no_mangle]
+pub extern "C" fn placelist_replay(
+    activities: u8,
+    text: &[u8],
+    inputs: u16,
+    outputs: u16,
+    value: &mut u64,
+    least: &mut i16,
+    last: &mut i16,
+) -> u8
+    ensures number { λ r. ⌜ r ≡ numberGiven (refusalInReplayed (replayed activities (now (text .entry)) (place inputs outputs))) ⌝ }
+    ensures value { λ _. ⌜ now (value .exit)
+        ≡ valueGiven (refusalInReplayed (replayed activities (now (text .entry)) (place inputs outputs))) ⌝ }
+    ensures least { λ _. ⌜ now (least .exit)
+        ≡ leastAfter (replayed activities (now (text .entry)) (place inputs outputs)) (now (least .entry)) ⌝ }
+    ensures last { λ _. ⌜ now (last .exit)
+        ≡ lastAfter (replayed activities (now (text .entry)) (place inputs outputs)) (now (last .entry)) ⌝ }
+{
+    match replay_first_trace(activities, text, Place { inputs, outputs }) {
+        Replayed::Refused(refusal) => refuse(refusal, value),
+        Replayed::Balances {
+            least: lowest,
+            last: end,
+        } => {
+            *value = 0;
+            *least = lowest;
+            *last = end;
+            0
+        }
+    }
+}
+
+// Judges a place over a log at a threshold: the case counts and the verdict.
+#[no_mangle]
+pub extern "C" fn placelist_judge(
+    activities: u8,
+    threshold: u16,
+    text: &[u8],
+    inputs: u16,
+    outputs: u16,
+    value: &mut u64,
+    counts: &mut [u64; 4],
+    verdict: &mut u8,
+) -> u8
+    ensures number { λ r. ⌜ r ≡ numberGiven (refusalInJudged (judged activities threshold (now (text .entry)) (place inputs outputs))) ⌝ }
+    ensures value { λ _. ⌜ now (value .exit)
+        ≡ valueGiven (refusalInJudged (judged activities threshold (now (text .entry)) (place inputs outputs))) ⌝ }
+    ensures counts { λ _. ⌜ now (counts .exit)
+        ≡ countsAfter (judged activities threshold (now (text .entry)) (place inputs outputs)) (now (counts .entry)) ⌝ }
+    ensures verdict { λ _. ⌜ now (verdict .exit)
+        ≡ verdictAfter (judged activities threshold (now (text .entry)) (place inputs outputs)) (now (verdict .entry)) ⌝ }
+{
+    match judge_place(activities, threshold, text, Place { inputs, outputs }) {
+        Judged::Refused(refusal) => refuse(refusal, value),
+        Judged::Counted {
+            counts: cases,
+            verdict: judgement,
+        } => {
+            *value = 0;
+            *counts = [cases.fitting, cases.underfed, cases.overfed, cases.both];
+            *verdict = mark_of(judgement);
+            0
+        }
+    }
+}
+
+// Searches the candidates for the places that a log fits: how the run ended and what it counted, with the words rejected and found.
+#[no_mangle]
+pub extern "C" fn placelist_search(
+    activities: u8,
+    mostinputs: u8,
+    mostoutputs: u8,
+    threshold: u16,
+    text: &[u8],
+    budget: u32,
+    rejected: &mut [u64],
+    found: &mut [u32],
+    value: &mut u64,
+    run: &mut [u64; 5],
+) -> u8
+    ensures number { λ r. ⌜ r
+        ≡ numberGiven (refusalInDiscovered (discovered (settingsOf activities mostinputs mostoutputs threshold) (now (text .entry))
+        (capacityOf (now (rejected .entry)) (now (found .entry)) budget))) ⌝ }
+    ensures value { λ _. ⌜ now (value .exit)
+        ≡ valueGiven (refusalInDiscovered (discovered (settingsOf activities mostinputs mostoutputs threshold) (now (text .entry))
+        (capacityOf (now (rejected .entry)) (now (found .entry)) budget))) ⌝ }
+    ensures run { λ _. ⌜ now (run .exit)
+        ≡ runAfter (discovered (settingsOf activities mostinputs mostoutputs threshold) (now (text .entry))
+        (capacityOf (now (rejected .entry)) (now (found .entry)) budget)) (now (run .entry)) ⌝ }
+    ensures rejected { λ _. ⌜ now (rejected .exit)
+        ≡ rejectedAfter (settingsOf activities mostinputs mostoutputs threshold) (now (text .entry))
+        (now (rejected .entry)) (now (found .entry)) budget ⌝ }
+    ensures found { λ _. ⌜ now (found .exit)
+        ≡ foundAfter (settingsOf activities mostinputs mostoutputs threshold) (now (text .entry))
+        (now (rejected .entry)) (now (found .entry)) budget ⌝ }
+{
+    let settings = Settings {
+        activities,
+        inputs: mostinputs,
+        outputs: mostoutputs,
+        threshold,
+    };
+    match discover(settings, text, budget, rejected, found) {
+        Discovered::Refused(refusal) => refuse(refusal, value),
+        Discovered::Ran(done) => {
+            *value = 0;
+            *run = [
+                done.end as u64,
+                done.found as u64,
+                done.rejected as u64,
+                done.replays as u64,
+                done.visits as u64,
+            ];
+            0
+        }
+    }
+}
+
+// Removes the redundant places from a list: how many words are left, with the words.
+#[no_mangle]
+pub extern "C" fn placelist_reduce(
+    words: &[u32],
+    kept: &mut [u32],
+    value: &mut u64,
+    count: &mut u64,
+) -> u8
+    ensures number { λ r. ⌜ r ≡ numberGiven (refusalInReduced (reduced (now (words .entry)) (length (now (kept .entry))))) ⌝ }
+    ensures value { λ _. ⌜ now (value .exit) ≡ valueGiven (refusalInReduced (reduced (now (words .entry)) (length (now (kept .entry))))) ⌝ }
+    ensures count { λ _. ⌜ now (count .exit) ≡ keptCountAfter (reduced (now (words .entry)) (length (now (kept .entry)))) (now (count .entry)) ⌝ }
+    ensures kept { λ _. ⌜ now (kept .exit) ≡ reducedAfter (now (words .entry)) (now (kept .entry)) ⌝ }
+{
+    match reduce(words, kept) {
+        Reduced::Refused(refusal) => refuse(refusal, value),
+        Reduced::Kept(left) => {
+            *value = 0;
+            *count = left as u64;
+            0
+        }
+    }
+}
