@@ -40,6 +40,15 @@ fn refuse(refusal: Refusal, value: &mut u64) -> u8
     number_of(refusal)
 }
 
+// The answer of a call that is not refused, 0, with 0 for its value.
+fn accept(value: &mut u64) -> u8
+    ensures number { λ r. ⌜ r ≡ 0 ⌝ }
+    ensures value { λ _. ⌜ now (value .exit) ≡ 0 ⌝ }
+{
+    *value = 0;
+    0
+}
+
 // Checks a log: how many frames and cases it has.
 #[no_mangle]
 pub extern "C" fn placelist_check(
@@ -55,9 +64,8 @@ pub extern "C" fn placelist_check(
     match check_log(activities, text) {
         Checked::Refused(refusal) => refuse(refusal, value),
         Checked::Accepted { frames, cases } => {
-            *value = 0;
             *counts = [frames as u64, cases];
-            0
+            accept(value)
         }
     }
 }
@@ -87,10 +95,9 @@ pub extern "C" fn placelist_replay(
             least: lowest,
             last: end,
         } => {
-            *value = 0;
             *least = lowest;
             *last = end;
-            0
+            accept(value)
         }
     }
 }
@@ -121,10 +128,9 @@ pub extern "C" fn placelist_judge(
             counts: cases,
             verdict: judgement,
         } => {
-            *value = 0;
             *counts = [cases.fitting, cases.underfed, cases.overfed, cases.both];
             *verdict = mark_of(judgement);
-            0
+            accept(value)
         }
     }
 }
@@ -168,7 +174,6 @@ pub extern "C" fn placelist_search(
     match discover(settings, text, budget, rejected, found) {
         Discovered::Refused(refusal) => refuse(refusal, value),
         Discovered::Ran(done) => {
-            *value = 0;
             *run = [
                 done.end as u64,
                 done.found as u64,
@@ -176,7 +181,7 @@ pub extern "C" fn placelist_search(
                 done.replays as u64,
                 done.visits as u64,
             ];
-            0
+            accept(value)
         }
     }
 }
@@ -197,9 +202,8 @@ pub extern "C" fn placelist_reduce(
     match reduce(words, kept) {
         Reduced::Refused(refusal) => refuse(refusal, value),
         Reduced::Kept(left) => {
-            *value = 0;
             *count = left as u64;
-            0
+            accept(value)
         }
     }
 }

@@ -1,25 +1,34 @@
 -- `capi::placelist_reduce` meets its contract: it hands on what the reduction answers, by cases, and leaves the buffer as the reduction does.
 -- Assumes nothing.
-use mathlib.Core.Path.{refl, sym, _∙_}
+use mathlib.Core.Path.{_≡_, refl, sym, _∙_}
+use lib.ListN.{length}
 use borrow.Author.Needs.{needs}
+use Rattle.redundancy.specs.Reduction.{reduced}
 use Rattle.capi.specs.Refused.{numberGiven, valueGiven, refusalInReduced}
 use Rattle.capi.specs.Results.{keptCountAfter}
 use Rattle.capi.proofs.placelist_reduce.Statement.{statement}
 use Rattle.capi.proofs.placelist_reduce.Tie as tie
 
+-- the reduction answers as defined
+answered : (c : tie.After-reduce)
+    → let a = c .before .before .before .before .args in c .reduce .result ≡ reduced (a .words .now) (length (a .kept .now))
+answered c = c .reduce .ensures .0
+
 returns : tie.Need-returns
 unfolding numberGiven valueGiven refusalInReduced keptCountAfter
 returns c =
     let r = c .before .before .before in
-    let d = r .before .before .before .before .reduce in
-    rw (sym (d .ensures .0) ∙ r .refusal .given .1) (c .refuse .ensures .0, (c .refuse .ensures .1, (refl, d .ensures .1)))
+    let d = r .before .before .before .before in
+    rw (sym (answered d) ∙ r .refusal .given .1)
+    (c .refuse .ensures .0, (c .refuse .ensures .1, (refl, d .reduce .ensures .1)))
 
 returns-2 : tie.Need-returns-2
 unfolding numberGiven valueGiven refusalInReduced keptCountAfter
 returns-2 c =
-    let r = c .before in
-    let d = r .before .before .before .before .reduce in
-    rw (sym (d .ensures .0) ∙ r .left .given .1) (refl, (refl, (refl, d .ensures .1)))
+    let r = c .before .before .before in
+    let d = r .before .before .before .before in
+    rw (sym (answered d) ∙ r .left .given .1)
+    (c .accept .ensures .0, (c .accept .ensures .1, (refl, d .reduce .ensures .1)))
 
 pub placelist-reduce-spec : {M : Type 1} → statement M
 placelist-reduce-spec =
@@ -29,6 +38,7 @@ placelist-reduce-spec =
     (λ c. search needs)  -- enum-known-refusal
     (λ c κs. search needs)  -- refuse-requires
     (λ c. search needs)  -- enum-known-left
+    (λ c κs. search needs)  -- accept-requires
     (λ c. search needs)  -- same-length
     returns
     (λ c. search needs)  -- same-length-2

@@ -1,25 +1,40 @@
 -- `capi::placelist_search` meets its contract: it hands on what the search answers, by cases, and leaves the two buffers as the search does.
 -- Assumes nothing.
-use mathlib.Core.Path.{refl, sym, _∙_}
+use mathlib.Core.Path.{_≡_, refl, sym, _∙_}
 use borrow.Author.Needs.{needs}
+use Rattle.candidate_search.specs.Discovery.{discovered, capacityOf}
+use Rattle.capi.specs.Settings.{settingsOf}
 use Rattle.capi.specs.Refused.{numberGiven, valueGiven, refusalInDiscovered}
 use Rattle.capi.specs.Results.{runAfter}
 use Rattle.capi.proofs.placelist_search.Statement.{statement}
 use Rattle.capi.proofs.placelist_search.Tie as tie
 
+-- the search answers as defined
+answered : (c : tie.After-discover)
+    → let a = c .before .before .before .before .before .before .args in
+    c .discover .result
+    ≡ discovered
+    (settingsOf (a .activities) (a .mostinputs) (a .mostoutputs) (a .threshold))
+    (a .text .now)
+    (capacityOf (a .rejected .now) (a .found .now) (a .budget))
+answered c = c .discover .ensures .0
+
 returns : tie.Need-returns
 unfolding numberGiven valueGiven refusalInDiscovered runAfter
 returns c =
     let r = c .before .before .before in
-    let d = r .before .before .before .before .before .before .discover in
-    rw (sym (d .ensures .0) ∙ r .refusal .given .1) (c .refuse .ensures .0, (c .refuse .ensures .1, (refl, (d .ensures .1 .0, d .ensures .1 .1))))
+    let d = r .before .before .before .before .before .before in
+    let buffers = d .discover .ensures .1 in
+    rw (sym (answered d) ∙ r .refusal .given .1)
+    (c .refuse .ensures .0, (c .refuse .ensures .1, (refl, (buffers .0, buffers .1))))
 
 returns-2 : tie.Need-returns-2
 unfolding numberGiven valueGiven refusalInDiscovered runAfter
 returns-2 c =
-    let r = c .before .before .before .before .before in
-    let d = r .before .before .before .before .before .before .discover in
-    rw (sym (d .ensures .0) ∙ r .done .given .1) (refl, (refl, (refl, (d .ensures .1 .0, d .ensures .1 .1))))
+    let r = c .before .before .before .before .before .before .before in
+    let d = r .before .before .before .before .before .before in
+    let buffers = d .discover .ensures .1 in
+    rw (sym (answered d) ∙ r .done .given .1) (c .accept .ensures .0, (c .accept .ensures .1, (refl, (buffers .0, buffers .1))))
 
 pub placelist-search-spec : {M : Type 1} → statement M
 placelist-search-spec =
@@ -32,6 +47,7 @@ placelist-search-spec =
     (λ c. search needs)  -- cast-t21
     (λ c. search needs)  -- cast-t24
     (λ c. search needs)  -- cast-t25
+    (λ c κs. search needs)  -- accept-requires
     (λ c. search needs)  -- same-length
     (λ c. search needs)  -- same-length-2
     returns
