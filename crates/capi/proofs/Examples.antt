@@ -11,15 +11,17 @@ use Rattle.balances.specs.declared.Replayed.{Replayed}
 use Rattle.balances.specs.declared.Judged.{Judged}
 use Rattle.candidate_search.specs.declared.Discovered.{Discovered}
 use Rattle.redundancy.specs.declared.Reduced.{Reduced}
+use Rattle.writer.specs.declared.Written.{Written}
 use Rattle.places.specs.Places.{place, word}
 use Rattle.log_format.specs.Checking.{checked}
 use Rattle.balances.specs.Answers.{replayed, judged}
 use Rattle.candidate_search.specs.Search.{holding}
 use Rattle.candidate_search.specs.Discovery.{discovered}
 use Rattle.redundancy.specs.Reduction.{reduced}
+use Rattle.writer.specs.Writing.{written}
 use Rattle.capi.specs.Settings.{settingsOf}
-use Rattle.capi.specs.Refused.{numberGiven, valueGiven, refusalInChecked, refusalInReplayed, refusalInJudged, refusalInDiscovered, refusalInReduced}
-use Rattle.capi.specs.Results.{sizesAfter, leastAfter, lastAfter, countsAfter, verdictAfter, runAfter, keptCountAfter}
+use Rattle.capi.specs.Refused.{numberGiven, valueGiven, refusalInChecked, refusalInReplayed, refusalInJudged, refusalInDiscovered, refusalInReduced, refusalInWritten}
+use Rattle.capi.specs.Results.{sizesAfter, leastAfter, lastAfter, countsAfter, verdictAfter, runAfter, keptCountAfter, byteCountAfter}
 use Rattle.capi.proofs.Opened.{opened}
 
 -- the number that a call answers, then the value beside it
@@ -51,6 +53,9 @@ searching A = discovered (settingsOf A 3 1 0) (bytes "00010001\n") (holding 9 9 
 abbrev reducing : ℕ → Reduced
 reducing room = reduced (word (place 1 2) ∷ word (place 4 4) ∷ word (place 5 6) ∷ []) room
 
+abbrev writing : ℕ → Written
+writing room = written (word (place 1 2) ∷ word (place 4 4) ∷ []) room
+
 pub record Examples : Type 0 where
   pub checks : checking 4 ≡ 0 ∷ 0 ∷ []
   pub sizes : sizesAfter (checked 4 log) (7 ∷ 8 ∷ []) ≡ 2 ∷ 3 ∷ []
@@ -77,6 +82,10 @@ pub record Examples : Type 0 where
   pub reduce-refused : said (refusalInReduced (reducing 2)) ≡ 8 ∷ 0 ∷ []
   pub kept-as-found : keptCountAfter (reducing 2) 7 ≡ 7
   pub no-place-in-list : said (refusalInReduced (reduced (word (place 1 2) ∷ 5 ∷ []) 2)) ≡ 7 ∷ 1 ∷ []
+  pub writes : said (refusalInWritten (writing 18)) ≡ 0 ∷ 0 ∷ []
+  pub bytes-written : byteCountAfter (writing 18) 7 ≡ 18
+  pub write-refused : said (refusalInWritten (writing 17)) ≡ 8 ∷ 0 ∷ []
+  pub bytes-as-found : byteCountAfter (writing 17) 7 ≡ 7
 
 pub examples : Examples
 unfolding opened
@@ -106,4 +115,8 @@ examples =
       reduce-refused = refl;
       kept-as-found = refl;
       no-place-in-list = refl;
+      writes = refl;
+      bytes-written = refl;
+      write-refused = refl;
+      bytes-as-found = refl;
     }

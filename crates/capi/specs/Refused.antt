@@ -15,6 +15,8 @@ use Rattle.candidate_search.specs.declared.Discovered.{Discovered}
 use Rattle.candidate_search.specs.declared.Discovered.the-variants as DiscoveredAs
 use Rattle.redundancy.specs.declared.Reduced.{Reduced}
 use Rattle.redundancy.specs.declared.Reduced.the-variants as ReducedAs
+use Rattle.writer.specs.declared.Written.{Written}
+use Rattle.writer.specs.declared.Written.the-variants as WrittenAs
 
 unfoldable pub numberGiven : Option Refusal → ℕ
 numberGiven none = 0
@@ -44,3 +46,7 @@ refusalInDiscovered (DiscoveredAs.Refused refusal) = some refusal
 unfoldable pub refusalInReduced : Reduced → Option Refusal
 refusalInReduced (ReducedAs.Kept count) = none
 refusalInReduced (ReducedAs.Refused refusal) = some refusal
+
+unfoldable pub refusalInWritten : Written → Option Refusal
+refusalInWritten (WrittenAs.Bytes count) = none
+refusalInWritten (WrittenAs.Refused refusal) = some refusal

@@ -14,6 +14,8 @@ use Rattle.candidate_search.specs.declared.Discovered.the-variants as Discovere
 use Rattle.candidate_search.specs.Rejected.{mark}
 use Rattle.redundancy.specs.declared.Reduced.{Reduced}
 use Rattle.redundancy.specs.declared.Reduced.the-variants as ReducedAs
+use Rattle.writer.specs.declared.Written.{Written}
+use Rattle.writer.specs.declared.Written.the-variants as WrittenAs
 
 -- the frames and the cases of a log
 unfoldable pub sizesAfter : Checked → List ℕ → List ℕ
@@ -49,3 +51,8 @@ runAfter (DiscoveredAs.Refused refusal) before = before
 unfoldable pub keptCountAfter : Reduced → ℕ → ℕ
 keptCountAfter (ReducedAs.Kept count) before = count
 keptCountAfter (ReducedAs.Refused refusal) before = before
+
+-- how many bytes were written
+unfoldable pub byteCountAfter : Written → ℕ → ℕ
+byteCountAfter (WrittenAs.Bytes count) before = count
+byteCountAfter (WrittenAs.Refused refusal) before = before

@@ -10,10 +10,12 @@ ghost use Rattle.log_format.specs.Checking.{checked};
 ghost use Rattle.balances.specs.Answers.{replayed, judged};
 ghost use Rattle.candidate_search.specs.Discovery.{discovered, capacityOf, foundAfter, rejectedAfter};
 ghost use Rattle.redundancy.specs.Reduction.{reduced, reducedAfter};
+ghost use Rattle.writer.specs.Writing.{written, writtenAfter};
 ghost use Rattle.capi.specs.Settings.{settingsOf};
-ghost use Rattle.capi.specs.Refused.{numberGiven, valueGiven};
-ghost use Rattle.capi.specs.Refused.{refusalInChecked, refusalInReplayed, refusalInJudged, refusalInDiscovered, refusalInReduced};
-ghost use Rattle.capi.specs.Results.{sizesAfter, leastAfter, lastAfter, countsAfter, verdictAfter, runAfter, keptCountAfter};
+ghost use Rattle.capi.specs.Refused.{numberGiven, valueGiven, refusalInChecked, refusalInReplayed, refusalInJudged};
+ghost use Rattle.capi.specs.Refused.{refusalInDiscovered, refusalInReduced, refusalInWritten};
+ghost use Rattle.capi.specs.Results.{sizesAfter, leastAfter, lastAfter, countsAfter, verdictAfter};
+ghost use Rattle.capi.specs.Results.{runAfter, keptCountAfter, byteCountAfter};
 use balances::Judged;
 use balances::Replayed;
 use candidate_search::Discovered;
@@ -30,6 +32,8 @@ use reduction::reduce;
 use redundancy::Reduced;
 use replay::judge_place;
 use replay::replay_first_trace;
+use writer::Written;
+use writer::write_places;
 
 // The answer of a refused call: the refusal's number, with its value written.
 fn refuse(refusal: Refusal, value: &mut u64) -> u8
@@ -47,6 +51,21 @@ fn accept(value: &mut u64) -> u8
 {
     *value = 0;
     0
+}
+
+// The answer of a call that writes bytes, with how many they are.
+fn answer_bytes(answer: Written, value: &mut u64, count: &mut u64) -> u8
+    ensures number { λ r. ⌜ r ≡ numberGiven (refusalInWritten answer) ⌝ }
+    ensures value { λ _. ⌜ now (value .exit) ≡ valueGiven (refusalInWritten answer) ⌝ }
+    ensures count { λ _. ⌜ now (count .exit) ≡ byteCountAfter answer (now (count .entry)) ⌝ }
+{
+    match answer {
+        Written::Refused(refusal) => refuse(refusal, value),
+        Written::Bytes(bytes) => {
+            *count = bytes as u64;
+            accept(value)
+        }
+    }
 }
 
 // Checks a log: how many frames and cases it has.
@@ -206,4 +225,20 @@ pub extern "C" fn placelist_reduce(
             accept(value)
         }
     }
+}
+
+// Writes a list of places as text: how many bytes it has, with the text.
+#[no_mangle]
+pub extern "C" fn placelist_write(
+    words: &[u32],
+    text: &mut [u8],
+    value: &mut u64,
+    count: &mut u64,
+) -> u8
+    ensures number { λ r. ⌜ r ≡ numberGiven (refusalInWritten (written (now (words .entry)) (length (now (text .entry))))) ⌝ }
+    ensures value { λ _. ⌜ now (value .exit) ≡ valueGiven (refusalInWritten (written (now (words .entry)) (length (now (text .entry))))) ⌝ }
+    ensures count { λ _. ⌜ now (count .exit) ≡ byteCountAfter (written (now (words .entry)) (length (now (text .entry)))) (now (count .entry)) ⌝ }
+    ensures text { λ _. ⌜ now (text .exit) ≡ writtenAfter (now (words .entry)) (now (text .entry)) ⌝ }
+{
+    answer_bytes(write_places(words, text), value, count)
 }
