@@ -19,6 +19,7 @@ use Rattle.candidate_search.specs.Search.{holding}
 use Rattle.candidate_search.specs.Discovery.{discovered}
 use Rattle.redundancy.specs.Reduction.{reduced}
 use Rattle.writer.specs.Writing.{written}
+use Rattle.reporter.specs.Reporting.{reported}
 use Rattle.capi.specs.Settings.{settingsOf}
 use Rattle.capi.specs.Refused.{numberGiven, valueGiven, refusalInChecked, refusalInReplayed, refusalInJudged, refusalInDiscovered, refusalInReduced, refusalInWritten}
 use Rattle.capi.specs.Results.{sizesAfter, leastAfter, lastAfter, countsAfter, verdictAfter, runAfter, keptCountAfter, byteCountAfter}
@@ -56,6 +57,10 @@ reducing room = reduced (word (place 1 2) ∷ word (place 4 4) ∷ word (place 5
 abbrev writing : ℕ → Written
 writing room = written (word (place 1 2) ∷ word (place 4 4) ∷ []) room
 
+-- three places and the last line
+abbrev reporting : ℕ → Written
+reporting room = reported (bytes "0303010000\n00010001\n") room
+
 pub record Examples : Type 0 where
   pub checks : checking 4 ≡ 0 ∷ 0 ∷ []
   pub sizes : sizesAfter (checked 4 log) (7 ∷ 8 ∷ []) ≡ 2 ∷ 3 ∷ []
@@ -86,6 +91,13 @@ pub record Examples : Type 0 where
   pub bytes-written : byteCountAfter (writing 18) 7 ≡ 18
   pub write-refused : said (refusalInWritten (writing 17)) ≡ 8 ∷ 0 ∷ []
   pub bytes-as-found : byteCountAfter (writing 17) 7 ≡ 7
+  pub reports : said (refusalInWritten (reporting 36883)) ≡ 0 ∷ 0 ∷ []
+  pub bytes-reported : byteCountAfter (reporting 36883) 7 ≡ 46
+  -- what is written is a refusal's line, and the call is not refused
+  pub reports-refusal : said (refusalInWritten (reported [] 36883)) ≡ 0 ∷ 0 ∷ []
+  pub refusal-written : byteCountAfter (reported [] 36883) 7 ≡ 13
+  pub report-refused : said (refusalInWritten (reporting 36882)) ≡ 8 ∷ 0 ∷ []
+  pub report-as-found : byteCountAfter (reporting 36882) 7 ≡ 7
 
 pub examples : Examples
 unfolding opened
@@ -119,4 +131,10 @@ examples =
       bytes-written = refl;
       write-refused = refl;
       bytes-as-found = refl;
+      reports = refl;
+      bytes-reported = refl;
+      reports-refusal = refl;
+      refusal-written = refl;
+      report-refused = refl;
+      report-as-found = refl;
     }

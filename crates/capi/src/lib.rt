@@ -11,6 +11,7 @@ ghost use Rattle.balances.specs.Answers.{replayed, judged};
 ghost use Rattle.candidate_search.specs.Discovery.{discovered, capacityOf, foundAfter, rejectedAfter};
 ghost use Rattle.redundancy.specs.Reduction.{reduced, reducedAfter};
 ghost use Rattle.writer.specs.Writing.{written, writtenAfter};
+ghost use Rattle.reporter.specs.Reporting.{reported, outputAfter};
 ghost use Rattle.capi.specs.Settings.{settingsOf};
 ghost use Rattle.capi.specs.Refused.{numberGiven, valueGiven, refusalInChecked, refusalInReplayed, refusalInJudged};
 ghost use Rattle.capi.specs.Refused.{refusalInDiscovered, refusalInReduced, refusalInWritten};
@@ -32,6 +33,7 @@ use reduction::reduce;
 use redundancy::Reduced;
 use replay::judge_place;
 use replay::replay_first_trace;
+use reporter::report_places;
 use writer::Written;
 use writer::write_places;
 
@@ -241,4 +243,21 @@ pub extern "C" fn placelist_write(
     ensures text { λ _. ⌜ now (text .exit) ≡ writtenAfter (now (words .entry)) (now (text .entry)) ⌝ }
 {
     answer_bytes(write_places(words, text), value, count)
+}
+
+// All of the program placelist but its reads and writes: how many bytes it writes for an input, with the bytes. A refusal that it writes as a line
+// is no refusal of the call.
+#[no_mangle]
+pub extern "C" fn placelist_report(
+    input: &[u8],
+    output: &mut [u8],
+    value: &mut u64,
+    count: &mut u64,
+) -> u8
+    ensures number { λ r. ⌜ r ≡ numberGiven (refusalInWritten (reported (now (input .entry)) (length (now (output .entry))))) ⌝ }
+    ensures value { λ _. ⌜ now (value .exit) ≡ valueGiven (refusalInWritten (reported (now (input .entry)) (length (now (output .entry))))) ⌝ }
+    ensures count { λ _. ⌜ now (count .exit) ≡ byteCountAfter (reported (now (input .entry)) (length (now (output .entry)))) (now (count .entry)) ⌝ }
+    ensures output { λ _. ⌜ now (output .exit) ≡ outputAfter (now (input .entry)) (now (output .entry)) ⌝ }
+{
+    answer_bytes(report_places(input, output), value, count)
 }
