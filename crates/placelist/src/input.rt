@@ -1,0 +1,30 @@
+// Standard input, read to its end.
+ghost use lib.ListN.{length};
+ghost use Rattle.placelist.specs.Reading.{Within};
+use libc::STDIN_FILENO;
+
+// The bytes of the input that the buffer takes, or that a read failed.
+pub enum Input {
+    Bytes(usize),
+    Failed,
+}
+
+// Reads standard input into a buffer from its front, until it ends or the buffer is full. A read may give less than there is, so the next goes on behind
+// it. One that fails is no end: a log that was cut there could pass for a whole one.
+pub fn read_input(buffer: &mut [u8]) -> Input
+    ensures { λ r. ⌜ Within (length (now (buffer .entry))) r ⌝ }
+{
+    let mut count = 0;
+    while count < buffer.len() {
+        let got = libc::read(STDIN_FILENO, &mut buffer[count..]);
+        if got < 0 {
+            return Input::Failed;
+        }
+        let more = io::count(got, &buffer[count..]);
+        if more == 0 {
+            break;
+        }
+        count += more;
+    }
+    Input::Bytes(count)
+}
