@@ -4,16 +4,12 @@ ghost use Prim.Native.Nat.{_<_};
 ghost use lib.ListN.{length};
 ghost use Rattle.hex_digits.specs.Digits.{digitByte, writeHex};
 
-// The byte that writes a value below 16.
+// The byte that writes a value below 16, with no branch: from 10 on it stands 7 further, where the letters are.
 fn digit_byte(value: u8) -> u8
     requires { ⌜ value < 16 ⌝ }
     ensures { λ r. ⌜ r ≡ digitByte value ⌝ }
 {
-    if value < 10 {
-        b'0' + value
-    } else {
-        b'A' - 10 + value
-    }
+    b'0' + value + (value + 6) / 16 * 7
 }
 
 // Fills a slice with a number's lowest digits, the highest first: as many as there are bytes.
