@@ -62,5 +62,14 @@ rest-put buffer front line {text} {ys} {at} so e d =
     let behind : drop at text ≡ rest = rw (so, e) (drop-append-seam front rest) in
     let room : length text - at ≡ length rest = rw (so, e) (omega (arith, length-append front rest)) in
     let before : take at text ≡ front = rw (so, e) (take-append-seam front rest) in
-    rw (d, room, behind, before, take-length rest, drop-length rest, append-nil, length-append front line, ← drop-drop (length line) (length front) buffer)
-    (sym (append-assoc front line (drop (length line) rest)))
+    rw (
+      d,
+      room,
+      behind,
+      before,
+      take-length rest,
+      drop-length rest,
+      append-nil,
+      length-append front line,
+      ← drop-drop (length line) (length front) buffer,
+    ) (sym (append-assoc front line (drop (length line) rest)))

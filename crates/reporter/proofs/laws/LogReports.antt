@@ -1,12 +1,12 @@
--- What is written of a log, from the answer and the buffers of its listing: the line of the refusal, or the words to report and the line of the run. With a
--- list of 4,096 words there are no more words than that.
+-- What is written of a log, from the answer and the buffers of its listing: the line of the refusal, or the words to report and the line of the run.
+-- There are no more words than the list takes.
 -- Assumes nothing.
 use Prim.Native.Nat.{ℕ, _+_, _*_, _≤_}
 use native.Mathlib.Omega.{arith}
-use mathlib.Core.Path.{_≡_, sym, ap, _∙_}
+use mathlib.Core.Path.{_≡_}
 use mathlib.Core.List.{List, _++_}
 use mathlib.Core.Option.{some}
-use lib.ListN.{length, take}
+use lib.ListN.{length, take, length-take}
 use Rattle.limits.specs.declared.Refusal.{Refusal}
 use Rattle.limits.specs.declared.Settings.{Settings}
 use Rattle.candidate_search.specs.declared.Run.{Run}
@@ -26,13 +26,10 @@ module _ {s : Settings} {text : List ℕ} {x : Run} {count : ℕ} {buffer : List
   unfolding logReport
   run-report = rw (r .passes, r .own, r .these) (report-parts (run s text capacity))
 
-  -- the words are there, and fit
-  pub all-taken : count ≡ length (take count buffer)
-  all-taken = r .counted ∙ ap length (sym (r .these))
-
   pub count-fits : count ≤ 4096
   unfolding capacity
   count-fits = omega (arith, r .counted, reported-fits s text capacity (r .passes))
 
-  pub report-fits : {room : ℕ} → mostOutput ≤ room → 9 * length (take count buffer) + 19 ≤ room
-  report-fits enough = omega (arith, all-taken, count-fits)
+-- so many words, and the last line
+pub words-fit : (count : ℕ) (buffer : List ℕ) {room : ℕ} → count ≤ 4096 → mostOutput ≤ room → 9 * length (take count buffer) + 19 ≤ room
+words-fit count buffer few enough = omega (arith, length-take count buffer)

@@ -1,5 +1,5 @@
--- What placelist writes for any input fits in the most output: a refusal is one line of 13 bytes; else there are 9 bytes for each reported place, of which
--- there are no more than the list takes, and 19 of the last line.
+-- What placelist writes for any input fits in the most output: a refusal is one line of 13 bytes; else there are 9 bytes for each reported place, of
+-- which there are no more than the list takes, and 19 of the last line.
 -- Assumes nothing.
 use Prim.Native.Nat.{ℕ, _≤_, _<_}
 use native.Mathlib.Omega.{arith}

@@ -1,6 +1,6 @@
--- What the answer and the buffers of a listing say of its run. The search was refused, or the answer carries its run; the words to report are the first
--- ones of the list if the run stopped, and the first ones of the second buffer if it completed. There they are the reduced list, since a completed run
--- found candidates, and a second buffer as long as the list takes all of their words: that reduction is never refused.
+-- What the answer and the buffers of a listing say of its run. The search was refused, or the answer carries its run; the words to report are the
+-- first ones of the list if the run stopped, and the first ones of the second buffer if it completed. There they are the reduced list, since a
+-- completed run found candidates, and a second buffer as long as the list takes all of their words: that reduction is never refused.
 -- Assumes nothing.
 use Prim.Native.Nat.{ℕ, _≤_}
 use native.Mathlib.Nat.{le-refl}
@@ -39,7 +39,7 @@ use Rattle.listing.specs.Listing.{Resources, foundIn, keptOf, searched, foundLe
 use Rattle.report.specs.Program.{reportedWords}
 use Rattle.reporter.proofs.laws.ListingCases.{Completed, was-refused, was-incomplete, was-complete}
 
-pub few-reduced : (words : List ℕ) → length (reducedWords words) ≤ length words
+few-reduced : (words : List ℕ) → length (reducedWords words) ≤ length words
 unfolding reducedWords
 few-reduced words =
     let every : ℕ → Bool = λ w. true in
@@ -88,8 +88,7 @@ module _ {s : Settings} {text : List ℕ} {resources : Resources} {answer : List
 
     pub listing-refused : (r : Refusal) → answer ≡ Refused r → runRefusal s text ≡ some r
     unfolding listing searched discovered
-    listing-refused r e =
-        was-refused (runRefusal s text) (summary made) (foundLeft s text resources) (length (resources .kept)) r (sym (goes .answers) ∙ e)
+    listing-refused r e = was-refused (runRefusal s text) (summary made) _ _ r (sym (goes .answers) ∙ e)
 
     -- the words that the run found are the first ones of its list
     found-first : runRefusal s text ≡ none → foundIn (summary made) (foundLeft s text resources) ≡ stateOf made .found
@@ -99,7 +98,7 @@ module _ {s : Settings} {text : List ℕ} {resources : Resources} {answer : List
     pub listing-stopped : (x : Run) → answer ≡ Incomplete x → Reports s text (roomOf resources) x (x .found) found
     unfolding listing searched discovered summary foundIn reportedWords
     listing-stopped x e =
-        let was = was-incomplete (runRefusal s text) (summary made) (foundLeft s text resources) (length (resources .kept)) x (sym (goes .answers) ∙ e) in
+        let was = was-incomplete (runRefusal s text) (summary made) _ _ x (sym (goes .answers) ∙ e) in
         record {
           passes = was .passes;
           own = was .own;
@@ -131,7 +130,7 @@ module _ {s : Settings} {text : List ℕ} {resources : Resources} {answer : List
           → Completed (runRefusal s text) (summary made) x × (d ≡ Reduction.Kept (length (reportedWords made)))
       unfolding listing searched discovered summary
       completed-so x d e =
-          let was = was-complete (runRefusal s text) (summary made) (foundLeft s text resources) (length (resources .kept)) x d (sym (goes .answers) ∙ e) in
+          let was = was-complete (runRefusal s text) (summary made) _ _ x d (sym (goes .answers) ∙ e) in
           (was .0, was .1 ∙ reduction-answers (was .0 .passes) (was .0 .ended))
 
       pub listing-completed : (x : Run) (count : ℕ) → answer ≡ Complete x (Reduction.Kept count) → Reports s text (roomOf resources) x count kept

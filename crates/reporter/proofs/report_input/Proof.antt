@@ -1,15 +1,18 @@
--- `reporter::report_input` meets its contract: an input that is too long is refused first, then one without a settings frame, and else the log after the
--- frame decides.
+-- `reporter::report_input` meets its contract: an input that is too long is refused first, then one without a settings frame, and else the log
+-- after the frame decides.
 -- Assumes nothing.
 use borrow.Author.Needs.{needs}
 use borrow.Author.Tests.{not-true, not-false}
-use Prim.Native.Nat.{_-_, _≤_}
+use Prim.Native.Nat.{ℕ, _-_, _≤_}
 use native.Mathlib.Omega.{arith}
-use mathlib.Core.Path.{_≡_, sym, _∙_}
+use mathlib.Core.Path.{_≡_, sym, ap, ap₂, _∙_}
 use mathlib.Core.Bool.{false}
-use lib.ListN.{length, take, drop, length-drop}
+use mathlib.Core.List.{List}
+use lib.ListN.{length, drop, length-drop}
 use lib.Seq.{take-all}
+use Rattle.foundation.specs.Buffers.{overwrite}
 use Rattle.report.specs.Program.{settingsMalformed, logIn}
+use Rattle.reporter.specs.Reporting.{logReport}
 use Rattle.reporter.proofs.laws.FrameLaws.{frame-long}
 use Rattle.reporter.proofs.laws.OutputRoom.{too-large, frame-malformed, log-decides}
 use Rattle.reporter.proofs.report_input.Statement.{statement}
@@ -22,26 +25,38 @@ framed c = not-true _ (sym (c .before .is-well-formed .ensures) ∙ not-false _ 
 long : (c : tie.Else2) → 11 ≤ length (c .before .before .before .before .before .args .input .now)
 long c = frame-long _ (framed c)
 
+-- so the log starts inside the input, or at its end
+sub-report-log : tie.Need-sub-report-log
+sub-report-log c = omega (arith, long (c .before))
+
 returns : tie.Need-returns
 returns c =
     let w = c .before .before in
-    rw (too-large _ (w .before .before .if1 .taken)) (w .write-refusal .ensures)
+    let input = w .before .before .before .before .before .args .input .now in
+    rw (too-large input (omega (arith, w .before .before .if1 .taken))) (w .write-refusal .ensures)
 
 returns-2 : tie.Need-returns-2
 returns-2 c =
     let w = c .before .before in
     let tested = w .before .before in
+    let input = tested .before .before .before .before .before .args .input .now in
     let malformed = not-false _ (sym (tested .before .is-well-formed .ensures) ∙ not-true _ (tested .if2 .taken)) in
-    rw (frame-malformed _ (tested .before .before .if1 .left) malformed) (w .write-refusal2 .ensures)
+    rw (frame-malformed input (omega (arith, tested .before .before .if1 .left)) malformed) (w .write-refusal2 .ensures)
 
+-- the log is what follows the frame
 returns-3 : tie.Need-returns-3
 unfolding logIn
 returns-3 c =
     let w = c .before .before in
     let read = w .before .before .before in
-    let input = read .before .before .before .before .before .before .args .input .now in
-    let rest : take (length input - 11) (drop 11 input) ≡ drop 11 input = take-all (length input - 11) (drop 11 input) (omega (arith, length-drop 11 input)) in
-    rw (log-decides input (read .before .before .before .if1 .left) (framed (read .before)), ← read .settings-of .ensures, ← rest) (w .report-log .ensures)
+    let entry = read .before .before .before .before .before .before in
+    let input = entry .args .input .now in
+    let rest = take-all (length input - 11) (drop 11 input) (omega (arith, length-drop 11 input)) in
+    let decided = log-decides input (omega (arith, read .before .before .before .if1 .left)) (framed (read .before)) in
+    let whole = ap₂ logReport (read .settings-of .ensures) rest ∙ sym decided in (
+      w .report-log .ensures .0 ∙ ap length whole,
+      w .report-log .ensures .1 ∙ ap (λ (text : List ℕ). overwrite text (entry .args .output .now)) whole,
+    )
 
 pub report-input-spec : {M : Type 1} → statement M
 report-input-spec =
@@ -55,7 +70,7 @@ report-input-spec =
     (λ c. search needs)  -- same-length-2
     returns-2
     (λ c κs. omega (arith, long c))  -- settings-of-requires
-    (λ c. long (c .before))  -- sub-report-log
+    sub-report-log
     (λ c. omega (arith, long (c .before)))  -- part-report-log-start
     (λ c. search needs)  -- part-report-log-end
     (λ c κs. search needs)  -- report-log-requires

@@ -4,6 +4,7 @@ use borrow.Author.Needs.{needs}
 use native.Mathlib.Omega.{arith}
 use mathlib.Core.Path.{sym, ap, _∙_}
 use lib.ListN.{length}
+use Rattle.limits.specs.Refusals.{number, value}
 use Rattle.report.specs.Program.{refusalLine}
 use Rattle.reporter.proofs.laws.LineParts.{overwrite-length, line-put}
 use Rattle.reporter.proofs.laws.OutputRoom.{length-refusal}
@@ -14,28 +15,16 @@ returns : tie.Need-returns
 unfolding refusalLine
 returns c =
     let third = c .before .before in
-    let value = third .before .before in
-    let second = value .before .before .before in
-    let number = second .before .before in
-    let first = number .before .before .before in
-    let entry = first .before .before .before in (
-      sym (length-refusal (entry .args .refusal)),
-      line-put
-          (entry .args .output .now)
-          _
-          _
-          _
-          2
-          2
-          8
-          (entry .pre)
-          _
-          _
-          _
-          (first .write-hex .ensures)
-          (rw (number .number-of .ensures) at (second .write-hex2 .ensures))
-          (rw (value .value-of .ensures) at (third .write-hex3 .ensures)),
-    )
+    let valued = third .before .before in
+    let second = valued .before .before .before in
+    let numbered = second .before .before in
+    let first = numbered .before .before .before in
+    let entry = first .before .before .before in
+    let r = entry .args .refusal in
+    let put = line-put (entry .args .output .now) 0xFF (number r) (value r) 2 2 8 (entry .pre) in
+    let two = rw (numbered .number-of .ensures) at (second .write-hex2 .ensures) in
+    let three = rw (valued .value-of .ensures) at (third .write-hex3 .ensures) in
+    (sym (length-refusal r), put _ _ _ (first .write-hex .ensures) two three)
 
 same-length : tie.Need-same-length
 same-length c =

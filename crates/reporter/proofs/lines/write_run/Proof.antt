@@ -16,23 +16,11 @@ returns c =
     let third = c .before .before in
     let second = third .before .before .before .before .before in
     let first = second .before .before .before .before .before in
-    let entry = first .before .before .before .before in (
-      sym (length-run (entry .args .run)),
-      line-put
-          (entry .args .output .now)
-          _
-          _
-          _
-          2
-          8
-          8
-          (entry .pre)
-          _
-          _
-          _
-          (first .write-hex .ensures)
-          (second .write-hex2 .ensures)
-          (third .write-hex3 .ensures),
+    let entry = first .before .before .before .before in
+    let x = entry .args .run in
+    let put = line-put (entry .args .output .now) (x .end) (x .replays) (x .visits) 2 8 8 (entry .pre) in (
+      sym (length-run x),
+      put _ _ _ (first .write-hex .ensures) (second .write-hex2 .ensures) (third .write-hex3 .ensures),
     )
 
 same-length : tie.Need-same-length

@@ -27,7 +27,8 @@ unfolding isDigit
 returns-2 c =
     let f = c .before .before in
     let l = f .before .before .before in
-    sym (ap not (digit-missing _ (l .loop .at) (omega arith) (l .before .if1 .left) (ap isValue (sym (f .classify .ensures) ∙ c .enum-told .given .1))))
+    let other = ap isValue (sym (f .classify .ensures) ∙ c .enum-told .given .1) in
+    sym (ap not (digit-missing _ (l .loop .at) (omega arith) (l .before .if1 .left) other))
 
 loop-again : tie.Need-loop-again Inv-loop μ-loop
 unfolding isDigit

@@ -16,8 +16,9 @@ second-small c = rw (c .value2 .ensures) (value-small _)
 
 returns : tie.Need-returns
 returns c =
-    let a = c .before .before .before .before .before .args in
-    omega (arith, two-number (a .input .now) (a .from) (c .before .before .before .before .before .pre), c .before .before .value .ensures, c .value2 .ensures)
+    let entry = c .before .before .before .before .before in
+    let number = two-number (entry .args .input .now) (entry .args .from) (entry .pre) in
+    omega (arith, number, c .before .before .value .ensures, c .value2 .ensures)
 
 pub two-digits-spec : {M : Type 1} → statement M
 two-digits-spec =
