@@ -17,18 +17,18 @@ use Rattle.reporter.proofs.report_log.Statement.{statement}
 use Rattle.reporter.proofs.report_log.Tie as tie
 
 -- what the listing is to be given: the capacity of the program, and a second buffer as long as the list
-unfoldable lent : Resources
-lent = resourcesOf (replicate (capacity .rejected) 0) (replicate (capacity .found) 0) (replicate (capacity .found) 0) (capacity .budget)
+unfoldable resources : Resources
+resources = resourcesOf (replicate (capacity .rejected) 0) (replicate (capacity .found) 0) (replicate (capacity .found) 0) (capacity .budget)
 
-as-long : length (lent .found) ≤ length (lent .kept)
-unfolding lent
-as-long = le-refl (length (lent .found))
+as-long : length (resources .found) ≤ length (resources .kept)
+unfolding resources
+as-long = le-refl (length (resources .found))
 
 goes : (c : tie.After-list-places)
     → let a = c .before .before .before .before .before .before .args in
     let left = c .list-places .last .1 .1 .1 in
-    GoesAsWritten (a .settings) (a .text .now) lent (c .list-places .result) (left .0) (left .1 .0) (left .1 .1 .0)
-unfolding lent capacity
+    GoesAsWritten (a .settings) (a .text .now) resources (c .list-places .result) (left .0) (left .1 .0) (left .1 .1 .0)
+unfolding resources capacity
 goes c = c .list-places .ensures
 
 -- where the listing has answered, from where it stopped and from where it completed
@@ -42,7 +42,7 @@ listed-2 c = c .before .before .before .before .before .before .before .before
 stopped : (c : tie.After-run)
     → let a = listed c .before .before .before .before .before .before .args in
     Reports (a .settings) (a .text .now) capacity (c .run .given .0 .0) (c .run .given .0 .0 .found) (listed c .list-places .last .1 .1 .1 .1 .0)
-unfolding lent capacityOf capacity
+unfolding resources capacityOf capacity
 stopped c = listing-stopped (goes (listed c)) _ (c .run .given .1)
 
 -- the run of one that completed, and the words of its second buffer
@@ -55,7 +55,7 @@ completed : (c : tie.After-reduced)
     (c .before .before .before .run2 .given .0 .0)
     (c .reduced .given .0 .0)
     (listed-2 c .list-places .last .1 .1 .1 .1 .1 .0)
-unfolding lent capacityOf capacity
+unfolding resources capacityOf capacity
 completed c =
     let r = c .before .before .before in
     listing-completed (goes (listed-2 c)) as-long _ _ (r .run2 .given .1 ∙ ap (Complete (r .run2 .given .0 .0)) (c .reduced .given .1))
