@@ -10,7 +10,7 @@ use Rattle.places.specs.Places.{place}
 use Rattle.log_format.specs.declared.Checked.the-variants as CheckedAs
 use Rattle.balances.proofs.Examples.{counts}
 use Rattle.replay.specs.declared.Tokens.{Tokens}
-use Rattle.replay.specs.Replaying.{argumentsChecked, afterEvent, codesIn, withCases}
+use Rattle.replay.specs.Replaying.{argumentsChecked, afterEvent, byDigit, digitSets, afterDigit, codesIn, withCases}
 use Rattle.replay.proofs.Opened.{opened}
 
 abbrev tokens : ℤ → ℤ → Tokens
@@ -21,6 +21,9 @@ pub record StepExamples : Type 0 where
   pub takes-first : afterEvent (place 0x0004 0x0004) (tokens (pos 0) (pos 0)) 2 ≡ tokens (pos 0) (negsuc 0)
   pub gives : afterEvent (place 0x0004 0x0008) (tokens (pos 2) (negsuc 0)) 2 ≡ tokens (pos 3) (negsuc 0)
   pub not-touched : afterEvent (place 0x0004 0x0008) (tokens (pos 2) (negsuc 0)) 5 ≡ tokens (pos 2) (negsuc 0)
+  -- the set of the codes 0, 9, 10 and 15, whose digits end in 16, 25, 1 and 6; the digit A, of code 10
+  pub set-by-digit : byDigit 0x8601 ≡ 0x02010042
+  pub gives-by-digit : afterDigit (digitSets (place 0x0400 0x0008)) (tokens (pos 2) (negsuc 0)) 65 ≡ tokens (pos 3) (negsuc 0)
   pub fits : withCases (counts 1 2 3 4) (tokens (pos 0) (pos 0)) 10 ≡ counts 11 2 3 4
   pub underfeeds-only : withCases (counts 1 2 3 4) (tokens (negsuc 0) (negsuc 0)) 10 ≡ counts 1 12 3 4
   pub overfeeds-only : withCases (counts 1 2 3 4) (tokens (pos 1) (pos 0)) 10 ≡ counts 1 2 13 4
@@ -37,6 +40,8 @@ step-examples =
       takes-first = refl;
       gives = refl;
       not-touched = refl;
+      set-by-digit = refl;
+      gives-by-digit = refl;
       fits = refl;
       underfeeds-only = refl;
       overfeeds-only = refl;

@@ -1,7 +1,8 @@
--- The steps of replaying and judging: the checks of a call's arguments, the tokens after one more event and after a trace, the codes that a
--- trace's digits stand for, and the case counts with one more frame. Document 01, "Tokens in one trace" and "Settings and the log".
+-- The steps of replaying and judging: the checks of a call's arguments, the sets of a place by digit, the tokens after one more event and after
+-- a trace, the codes that a trace's digits stand for, and the case counts with one more frame. Document 01, "Tokens in one trace" and "Settings and
+-- the log".
 -- Assumes nothing.
-use Prim.Native.Nat.{ℕ, _+_}
+use Prim.Native.Nat.{ℕ, _+_, _*_, _/_, _%_}
 use mathlib.Core.Bool.{Bool, cond, not, _&&_}
 use mathlib.Core.List.{List, [], _∷_}
 use lib.IntN.{pos, _+ℤ_, _-ℤ_}
@@ -19,6 +20,7 @@ use Rattle.log_format.specs.Frames.{totalCases}
 use Rattle.log_format.specs.Lines.{framesOf}
 use Rattle.log_format.specs.Checking.{logRefusal}
 use Rattle.balances.specs.declared.CaseCounts.{CaseCounts}
+use Rattle.replay.specs.declared.DigitSets.{DigitSets}
 use Rattle.replay.specs.declared.Tokens.{Tokens}
 use Rattle.balances.specs.Balance.{smaller, leastBalance, lastBalance}
 
@@ -30,11 +32,27 @@ argumentsChecked A inRange text p =
     (logRefusal (given (not inRange) InvalidSetting) (placeFault A 0 p) A text)
     (Accepted (length (framesOf text)) (totalCases (framesOf text)))
 
--- an event takes a token where it is an output, then gives one where it is an input; the balance that counts for the low is the one between
+-- an event takes a token or none, then gives one or none; the balance that counts for the low is the one between
+abbrev pub tokensAfter : Tokens → ℕ → ℕ → Tokens
+tokensAfter t takes gives =
+    let taken = t .balance -ℤ pos takes in
+    record { balance = taken +ℤ pos gives; least = smaller (t .least) taken }
+
+-- it takes one where it is an output, and gives one where it is an input
 unfoldable pub afterEvent : Place → Tokens → ℕ → Tokens
-afterEvent p t code =
-    let taken = t .balance -ℤ pos (has (p .outputs) code) in
-    record { balance = taken +ℤ pos (has (p .inputs) code); least = smaller (t .least) taken }
+afterEvent p t code = tokensAfter t (has (p .outputs) code) (has (p .inputs) code)
+
+-- a set of codes as a set of digits, each by the last five bits of its byte: the digits 0 to 9 (bytes 48 to 57) have 16 to 25 there, and A to F
+-- (65 to 70) have 1 to 6
+abbrev pub byDigit : ℕ → ℕ
+byDigit s = s % 1024 * 65536 + s / 1024 % 64 * 2
+
+abbrev pub digitSets : Place → DigitSets
+digitSets p = record { inputs = byDigit (p .inputs); outputs = byDigit (p .outputs) }
+
+-- after an event, by its digit
+unfoldable pub afterDigit : DigitSets → Tokens → ℕ → Tokens
+afterDigit s t digit = tokensAfter t (has (s .outputs) (digit % 32)) (has (s .inputs) (digit % 32))
 
 -- after the last event of a trace: the end and the low of document 01
 abbrev pub afterTrace : Place → List ℕ → Tokens

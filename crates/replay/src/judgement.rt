@@ -7,6 +7,7 @@ ghost use Rattle.log_format.specs.Lines.{framesOf};
 ghost use Rattle.balances.specs.Judgement.{caseCounts, casesOf, exceeds, verdictOf};
 ghost use Rattle.replay.specs.Replaying.{withCases};
 use crate::Tokens;
+use crate::trace::digit_sets;
 use crate::trace::replay_trace;
 use balances::CaseCounts;
 use balances::Verdict;
@@ -40,6 +41,7 @@ pub fn count_cases(text: &[u8], place: Place) -> CaseCounts
     requires { ⌜ WrittenLog mostActivities (framesOf (now text)) (now text) ⌝ }
     ensures { λ r. ⌜ r ≡ caseCounts place (framesOf (now (text .entry))) ⌝ }
 {
+    let sets = digit_sets(place);
     let mut counts = CaseCounts {
         fitting: 0,
         underfed: 0,
@@ -50,7 +52,7 @@ pub fn count_cases(text: &[u8], place: Place) -> CaseCounts
     while at < text.len() {
         let start = at + COUNT_DIGITS;
         let end = trace_end(text, start);
-        let tokens = replay_trace(&text[start..end], place);
+        let tokens = replay_trace(&text[start..end], sets);
         counts = add_cases(counts, tokens, cases_at(text, at));
         at = end + 1;
     }

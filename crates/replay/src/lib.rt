@@ -9,6 +9,7 @@ ghost use Rattle.balances.specs.Judgement.{verdict};
 ghost use Rattle.replay.specs.Replaying.{argumentsChecked};
 use crate::judgement::count_cases;
 use crate::judgement::verdict_on;
+use crate::trace::digit_sets;
 use crate::trace::replay_trace;
 use balances::Judged;
 use balances::Replayed;
@@ -30,6 +31,12 @@ mod trace; // trace.rt: the tokens of one trace
 pub struct Tokens {
     pub balance: i16,
     pub least: i16,
+}
+
+// The two sets of a place as sets of digits in place of codes.
+pub struct DigitSets {
+    pub inputs: u32,
+    pub outputs: u32,
 }
 
 // Checks the arguments of a call on a log and a place, in the order of checks. Whether the call's settings are in their ranges is handed in.
@@ -60,7 +67,7 @@ pub fn replay_first_trace(activities: u8, text: &[u8], place: Place) -> Replayed
         } => {
             let start = COUNT_DIGITS;
             let end = trace_end(text, start);
-            let tokens = replay_trace(&text[start..end], place);
+            let tokens = replay_trace(&text[start..end], digit_sets(place));
             Replayed::Balances {
                 least: tokens.least,
                 last: tokens.balance,

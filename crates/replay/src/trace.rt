@@ -1,23 +1,43 @@
 // Replaying one trace: document 01, "Tokens in one trace", first paragraph.
 ghost use mathlib.Core.Path.{_≡_};
-ghost use Prim.Native.Nat.{_*_, _≤_, _<_};
+ghost use Prim.Native.Nat.{_*_, _≤_};
 ghost use lib.Signed.{mag};
 ghost use lib.ListN.{length};
 ghost use mathlib.Core.Bool.{true};
 ghost use Rattle.foundation.specs.Lists.{all};
-ghost use Rattle.hex_digits.specs.Digits.{isDigit, digitValue};
+ghost use Rattle.hex_digits.specs.Digits.{isDigit};
+ghost use Rattle.places.specs.declared.Place.{Place};
 ghost use Rattle.log_format.specs.Frames.{mostEvents};
-ghost use Rattle.replay.specs.Replaying.{afterEvent, afterTrace, codesIn};
+ghost use Rattle.replay.specs.Replaying.{byDigit, digitSets, afterDigit, afterTrace, codesIn};
+use crate::DigitSets;
 use crate::Tokens;
 use places::Place;
 
-// The tokens after one more event: it takes before it gives, so that an activity in both sets does not feed itself.
-fn replay_event(tokens: Tokens, place: Place, code: u8) -> Tokens
-    requires { ⌜ (code < 16) × (mag (tokens .balance) ≤ 2 * mostEvents) ⌝ }
-    ensures { λ r. ⌜ r ≡ afterEvent place tokens code ⌝ }
+// A set of codes as a set of digits, each by the last five bits of its byte: of 0 to 9 these are 16 to 25, and of A to F 1 to 6.
+fn by_digit(set: u16) -> u32
+    ensures { λ r. ⌜ r ≡ byDigit set ⌝ }
 {
-    let taken = tokens.balance - ((place.outputs >> code) % 2) as i16;
-    let balance = taken + ((place.inputs >> code) % 2) as i16;
+    (set % 1024) as u32 * 65536 + (set / 1024) as u32 * 2
+}
+
+// The sets of a place by digit, so that a digit need not be decoded to look it up.
+pub fn digit_sets(place: Place) -> DigitSets
+    ensures { λ r. ⌜ r ≡ digitSets place ⌝ }
+{
+    DigitSets {
+        inputs: by_digit(place.inputs),
+        outputs: by_digit(place.outputs),
+    }
+}
+
+// The tokens after one more event: it takes before it gives, so that an activity in both sets does not feed itself.
+fn replay_event(tokens: Tokens, sets: DigitSets, digit: u8) -> Tokens
+    requires { ⌜ mag (tokens .balance) ≤ 2 * mostEvents ⌝ }
+    ensures { λ r. ⌜ r ≡ afterDigit sets tokens digit ⌝ }
+{
+    let bit = digit % 32;
+    let taken = tokens.balance - ((sets.outputs >> bit) % 2) as i16;
+    let balance = taken + ((sets.inputs >> bit) % 2) as i16;
     if tokens.least <= taken {
         Tokens {
             balance,
@@ -31,19 +51,11 @@ fn replay_event(tokens: Tokens, place: Place, code: u8) -> Tokens
     }
 }
 
-// The code that the second digit of an activity writes, with no branch: the digits 0 to 9 end in their value, and A to F in 9 less.
-fn code_of(digit: u8) -> u8
-    requires { ⌜ isDigit digit ≡ true ⌝ }
-    ensures { λ r. ⌜ r ≡ digitValue digit ⌝ }
-{
-    (digit % 16 + digit / 64 * 9) % 16
-}
-
 // The tokens after a trace, from its digits, two for each activity. Codes are below 16, so the second digit is the code. All events are
 // replayed, also after a token was missing.
-pub fn replay_trace(digits: &[u8], place: Place) -> Tokens
+pub fn replay_trace(digits: &[u8], sets: DigitSets) -> Tokens
     requires { ⌜ (length (now digits) ≤ 2 * mostEvents) × (all isDigit (now digits) ≡ true) ⌝ }
-    ensures { λ r. ⌜ r ≡ afterTrace place (codesIn (now (digits .entry))) ⌝ }
+    ensures { λ r. ⌜ ((place : Place) → sets ≡ digitSets place → r ≡ afterTrace place (codesIn (now (digits .entry)))) ⌝ }
 {
     let mut tokens = Tokens {
         balance: 0,
@@ -51,7 +63,7 @@ pub fn replay_trace(digits: &[u8], place: Place) -> Tokens
     };
     let mut at = 1;
     while at < digits.len() {
-        tokens = replay_event(tokens, place, code_of(digits[at]));
+        tokens = replay_event(tokens, sets, digits[at]);
         at += 2;
     }
     tokens

@@ -1,10 +1,9 @@
 -- The codes in a trace's digits, read from an odd place on, two places a step; and that the codes of a written trace are the trace, where each
 -- is below 16: the second digit of such a code is the code.
 -- Assumes nothing.
-use Prim.Native.Nat.{ℕ, zero, suc, _+_, _-_, _*_, _/_, _%_, _≤_, _<_}
+use Prim.Native.Nat.{ℕ, zero, suc, _+_, _-_, _/_, _%_, _≤_, _<_}
 use native.Mathlib.Omega.{arith}
 use mathlib.Core.Path.{_≡_, refl, ap, ap₂, _∙_}
-use mathlib.Core.Bool.{true}
 use mathlib.Core.List.{List, [], _∷_, flatMap}
 use lib.Dec.{ltb}
 use lib.ListN.{length, drop, getD, drop-of-length-le}
@@ -12,8 +11,8 @@ use lib.Seq.{drop-cons}
 use borrow.Author.Tests.{ltb-true, ltb-false}
 use Rattle.foundation.specs.Lists.{Each, each-nil, each-cons}
 use Rattle.foundation.proofs.laws.Booleans.{by-test}
-use Rattle.hex_digits.specs.Digits.{isDigit, valueIn, digitValue, digitByte, writeHex}
-use Rattle.hex_digits.proofs.laws.DigitLaws.{digit-writes, digit-of}
+use Rattle.hex_digits.specs.Digits.{valueIn, digitValue, digitByte, writeHex}
+use Rattle.hex_digits.proofs.laws.DigitLaws.{digit-of}
 use Rattle.replay.specs.Replaying.{codesIn}
 
 module _ (digits : List ℕ) where
@@ -36,24 +35,6 @@ module _ (digits : List ℕ) where
       let last : length digits ≤ suc (at - 1) = omega arith in
       rw (drop-cons digits (at - 1) 0 h, drop-of-length-le digits last))
       (λ f. let h = ltb-false (at - 1) (length digits) f in rw (drop-of-length-le digits h))
-
--- how a known digit's value is computed with no branch: the byte's low four bits are the value, or 9 less where the byte is a letter
-abbrev pub computed : ℕ → ℕ
-computed byte = (byte % 16 + byte / 64 * 9) % 16
-
-computed-back : (byte v letter : ℕ) → byte % 16 + letter * 9 ≡ v → byte / 64 ≡ letter → v < 16 → computed byte ≡ v
-computed-back byte v letter e f small = rw (f, e) (omega arith)
-
-computed-written : (v : ℕ) → v < 16 → computed (digitByte v) ≡ v
-unfolding digitByte
-computed-written v small =
-    by-test
-    (ltb v 10)
-    (λ t. let h = ltb-true v 10 t in rw t (computed-back (48 + v) v 0 (omega arith) (omega arith) small))
-    (λ f. let h = ltb-false v 10 f in rw f (computed-back (55 + v) v 1 (omega arith) (omega arith) small))
-
-pub computed-value : (byte : ℕ) → isDigit byte ≡ true → computed byte ≡ digitValue byte
-computed-value byte e = let w = digit-writes byte e in rw (w .back) at (computed-written (digitValue byte) (w .small))
 
 second-digit : (code : ℕ) → code < 16 → digitValue (digitByte (code / 1 % 16)) ≡ code
 second-digit code small = ap valueIn (digit-of (code / 1 % 16) (omega arith)) ∙ omega arith

@@ -37,7 +37,8 @@ part-replay-trace-end c = omega (arith, digits (c .before) .ends, c .trace-end .
 
 replay-trace-requires : tie.Need-replay-trace-requires
 replay-trace-requires c κs =
-    let d = digits (c .before .before) in rw (c .before .trace-end .ensures) (d .short, d .digits)
+    let e = c .before .before in
+    let d = digits (e .before) in rw (e .trace-end .ensures) (d .short, d .digits)
 
 returns : tie.Need-returns
 returns c =
@@ -47,10 +48,10 @@ returns c =
 returns-2 : tie.Need-returns-2
 returns-2 c =
     let t = c .before in
-    let e = t .before .before in
+    let e = t .before .before .before in
     let r = t .replay-trace .result in
     ap₂ Balances (toZ-ofZ w16 (r .least) (search needs)) (toZ-ofZ w16 (r .balance) (search needs))
-    ∙ rw (t .replay-trace .ensures, e .trace-end .ensures, digits (e .before) .trace) (replay-accepted _ _ _ (passed (e .before)))
+    ∙ rw (t .replay-trace .ensures _ (t .before .digit-sets .ensures), e .trace-end .ensures, digits (e .before) .trace) (replay-accepted _ _ _ (passed (e .before)))
 
 pub replay-first-trace-spec : {M : Type 1} → statement M
 replay-first-trace-spec =
@@ -64,6 +65,7 @@ replay-first-trace-spec =
     sub-replay-trace
     part-replay-trace-start
     part-replay-trace-end
+    (λ c κs. search needs)  -- digit-sets-requires
     replay-trace-requires
     returns
     returns-2)

@@ -8,22 +8,22 @@ use Rattle.replay.proofs.trace.replay_event.Tie as tie
 sub-taken : tie.Need-sub-taken
 sub-taken c =
     let d = c .before .before .before in
-    taken-fits (d .args .place) (d .args .tokens) (d .args .code) (d .pre .1)
+    taken-fits (d .args .sets) (d .args .tokens) (d .args .digit) (d .pre)
 
 add-balance : tie.Need-add-balance
 add-balance c =
     let d = c .before .before .before .before in
-    given-fits (d .args .place) (d .args .tokens) (d .args .code) (d .pre .1)
+    given-fits (d .args .sets) (d .args .tokens) (d .args .digit) (d .pre)
 
 returns : tie.Need-returns
 returns c =
     let d = c .before .before .before .before .before .before .before .before in
-    least-stays (d .args .place) (d .args .tokens) (d .args .code) (d .pre .1) (search needs) (c .before .if1 .taken)
+    least-stays (d .args .sets) (d .args .tokens) (d .args .digit) (d .pre) (search needs) (c .before .if1 .taken)
 
 returns-2 : tie.Need-returns-2
 returns-2 c =
     let d = c .before .before .before .before .before .before .before in
-    least-falls (d .args .place) (d .args .tokens) (d .args .code) (d .pre .1) (search needs) (c .if1 .left)
+    least-falls (d .args .sets) (d .args .tokens) (d .args .digit) (d .pre) (search needs) (c .if1 .left)
 
 pub replay-event-spec : {M : Type 1} → statement M
 replay-event-spec =
@@ -31,9 +31,11 @@ replay-event-spec =
     (tie.spec
     (λ c. search needs)  -- shr-taken
     (λ c. search needs)  -- cast-taken
+    (λ c. search needs)  -- cast-taken-2
     sub-taken
     (λ c. search needs)  -- shr-balance
     (λ c. search needs)  -- cast-balance
+    (λ c. search needs)  -- cast-balance-2
     add-balance
     returns
     returns-2)
