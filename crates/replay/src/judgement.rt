@@ -1,5 +1,6 @@
 // Judging a place over the frames of a log that was checked: document 01, "Tokens in one trace", second paragraph.
 ghost use mathlib.Core.Path.{_≡_};
+ghost use mathlib.Core.Bool.{cond};
 ghost use Prim.Native.Nat.{_+_, _^_, _≤_, _<_};
 ghost use Rattle.limits.specs.Settings.{mostActivities};
 ghost use Rattle.log_format.specs.Frames.{WrittenLog};
@@ -16,24 +17,27 @@ use event_log::frame::trace_end;
 use log_lines::COUNT_DIGITS;
 use places::Place;
 
+// Some cases where a test holds, and none where it does not, without a branch: how traces go cannot be foretold.
+fn cases_where(holds: bool, cases: u64) -> u64
+    ensures { λ r. ⌜ (r ≡ cond holds cases 0) × (r ≤ cases) ⌝ }
+{
+    holds as u64 * cases
+}
+
 // The case counts with those of one more trace, by the signs of its least and its last balance.
 fn add_cases(counts: CaseCounts, tokens: Tokens, cases: u16) -> CaseCounts
     requires { ⌜ casesOf counts + cases < 2 ^ 64 ⌝ }
     ensures { λ r. ⌜ r ≡ withCases counts tokens cases ⌝ }
 {
-    let mut counts = counts;
-    if tokens.least < 0 {
-        if tokens.balance > 0 {
-            counts.both += cases as u64;
-        } else {
-            counts.underfed += cases as u64;
-        }
-    } else if tokens.balance > 0 {
-        counts.overfed += cases as u64;
-    } else {
-        counts.fitting += cases as u64;
+    let all = cases as u64;
+    let underfed = tokens.least < 0;
+    let overfed = tokens.balance > 0;
+    CaseCounts {
+        fitting: counts.fitting + cases_where(!underfed & !overfed, all),
+        underfed: counts.underfed + cases_where(underfed & !overfed, all),
+        overfed: counts.overfed + cases_where(!underfed & overfed, all),
+        both: counts.both + cases_where(underfed & overfed, all),
     }
-    counts
 }
 
 // The four case counts of a place over a log that was accepted, frame by frame.

@@ -1,7 +1,5 @@
--- `replay::judgement::add_cases` meets its contract: at each return the signs of the two balances, read back from their bits, are those of the
--- definition, and the other three counts get 0.
+-- `replay::judgement::add_cases` meets its contract: the signs of the two balances, read back from their bits, are those of the definition.
 -- Assumes nothing.
-use native.Mathlib.Nat.{add-zero}
 use mathlib.Core.Path.{_≡_, sym, _∙_}
 use lib.IntN.{ℤ, pos}
 use lib.Signed.{ltZ}
@@ -22,44 +20,30 @@ above-zero z f = rw (toZ-ofZ w16 z f)
 returns : tie.Need-returns
 unfolding withCases
 returns c =
-    let t = c .before .before .before .before .before .before .before .args .tokens in
-    let u = sym (below-zero (t .least) (search needs)) ∙ c .before .before .before .before .if1 .taken in
-    let o = sym (above-zero (t .balance) (search needs)) ∙ c .before .if2 .taken in
-    simp (u, o, add-zero)
-
-returns-2 : tie.Need-returns-2
-unfolding withCases
-returns-2 c =
-    let t = c .before .before .before .before .before .before .before .args .tokens in
-    let u = sym (below-zero (t .least) (search needs)) ∙ c .before .before .before .before .if1 .taken in
-    let o = sym (above-zero (t .balance) (search needs)) ∙ c .before .if2 .left in
-    simp (u, o, add-zero)
-
-returns-3 : tie.Need-returns-3
-unfolding withCases
-returns-3 c =
-    let t = c .before .before .before .before .before .before .before .args .tokens in
-    let u = sym (below-zero (t .least) (search needs)) ∙ c .before .before .before .before .if1 .left in
-    let o = sym (above-zero (t .balance) (search needs)) ∙ c .before .if3 .taken in
-    simp (u, o, add-zero)
-
-returns-4 : tie.Need-returns-4
-unfolding withCases
-returns-4 c =
-    let t = c .before .before .before .before .before .before .before .args .tokens in
-    let u = sym (below-zero (t .least) (search needs)) ∙ c .before .before .before .before .if1 .left in
-    let o = sym (above-zero (t .balance) (search needs)) ∙ c .before .if3 .left in
-    simp (u, o, add-zero)
+    let fourth = c .before in
+    let third = fourth .before .before in
+    let second = third .before .before in
+    let first = second .before .before in
+    let t = first .before .before .before .before .before .args .tokens in
+    rw (
+      first .cases-where .ensures .0,
+      second .cases-where2 .ensures .0,
+      third .cases-where3 .ensures .0,
+      fourth .cases-where4 .ensures .0,
+      below-zero (t .least) (search needs),
+      above-zero (t .balance) (search needs),
+    )
 
 pub add-cases-spec : {M : Type 1} → statement M
 add-cases-spec =
     tie.close
     (tie.spec
-    (λ c. search needs)  -- add-counts
-    (λ c. search needs)  -- add-counts-2
-    (λ c. search needs)  -- add-counts-3
-    (λ c. search needs)  -- add-counts-4
-    returns
-    returns-2
-    returns-3
-    returns-4)
+    (λ c κs. search needs)  -- cases-where-requires
+    (λ c. search needs)  -- add-t11
+    (λ c κs. search needs)  -- cases-where-requires-2
+    (λ c. search needs)  -- add-t15
+    (λ c κs. search needs)  -- cases-where-requires-3
+    (λ c. search needs)  -- add-t19
+    (λ c κs. search needs)  -- cases-where-requires-4
+    (λ c. search needs)  -- add-t22
+    returns)
