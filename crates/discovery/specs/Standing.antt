@@ -14,18 +14,20 @@ use Rattle.limits.specs.Settings.{mostActivities}
 use Rattle.places.specs.declared.Place.{Place}
 use Rattle.log_format.specs.Frames.{WrittenLog}
 use Rattle.log_format.specs.Lines.{framesOf}
+use Rattle.event_log.specs.Stepping.{frameIndex}
 use Rattle.balances.specs.Judgement.{verdict}
 use Rattle.candidate_search.specs.declared.Run.{Run}
 use Rattle.candidate_search.specs.Search.{State, Progress, going, step, stateOf}
 use Rattle.candidate_search.specs.Discovery.{summary, capacityOf}
 
--- settings and a log that the checks of the call have passed, as far as the search needs it
-pub record Searchable (s : Settings) (text : List ℕ) : Type 0 where
+-- settings and a log that the checks of the call have passed, as far as the search needs it, and the index of the log's frames
+pub record Searchable (s : Settings) (text index : List ℕ) : Type 0 where
   pub some-activities : 1 ≤ s .activities
   pub few-activities : s .activities ≤ mostActivities
   pub some-inputs : 1 ≤ s .inputs
   pub small-threshold : s .threshold ≤ 1000
   pub log : WrittenLog mostActivities (framesOf text) text
+  pub indexed : index ≡ frameIndex 0 (framesOf text)
 
 -- the state that a run's counts and its two buffers stand for; the candidate whose turn it is follows none that is pruned
 unfoldable pub stateIn : Run → List ℕ → List ℕ → State

@@ -4,6 +4,7 @@ ghost use Prim.Native.Nat.{ℕ, suc, _+_, _≤_, _<_, _^_};
 ghost use Rattle.limits.specs.Settings.{mostActivities};
 ghost use Rattle.log_format.specs.Frames.{WrittenLog};
 ghost use Rattle.log_format.specs.Lines.{framesOf};
+ghost use Rattle.event_log.specs.Stepping.{frameIndex};
 ghost use Rattle.balances.specs.Judgement.{verdict};
 ghost use Rattle.discovery.specs.declared.Ruling.the-variants.{Unruled};
 ghost use Rattle.discovery.specs.Rulings.{rulingOf};
@@ -67,6 +68,7 @@ fn conclude_turn(
 pub fn visit_candidate(
     threshold: u16,
     text: &[u8],
+    index: &[u64],
     budget: u32,
     rejected: &mut [u64],
     found: &mut [u32],
@@ -74,7 +76,7 @@ pub fn visit_candidate(
     candidate: Place,
 ) -> Turn
     requires { ⌜ (threshold ≤ 1000) × WrittenLog mostActivities (framesOf (now text)) (now text)
-        × Stands run (now rejected) (now found) × (run .visits + 1 < 2 ^ 32) ⌝ }
+        × (now index ≡ frameIndex 0 (framesOf (now text))) × Stands run (now rejected) (now found) × (run .visits + 1 < 2 ^ 32) ⌝ }
     ensures { λ r. ⌜ (let p = visit (verdict threshold (framesOf (now (text .entry)))) (capacityOf (now (rejected .entry)) (now (found .entry)) budget)
         candidate (stateIn run (now (rejected .entry)) (now (found .entry))) in
         Leaves p (now (rejected .entry)) (now (found .entry)) (r .run) (now (rejected .exit)) (now (found .exit)) × (r .prune ≡ prunes p)) ⌝ }
@@ -97,7 +99,7 @@ pub fn visit_candidate(
             }
             run.visits += 1;
             run.replays += 1;
-            let verdict = verdict_over(threshold, text, candidate);
+            let verdict = verdict_over(threshold, text, index, candidate);
             conclude_turn(rejected, found, run, candidate, verdict)
         }
     }

@@ -7,10 +7,12 @@ use balances::Verdict;
 use candidate_search::Discovered;
 use candidate_search::Run;
 use event_log::check_log;
+use event_log::frame::index_frames;
 use limits::Refusal;
 use limits::Settings;
 use limits::settings_in_range;
 use log_format::Checked;
+use log_lines::MOST_FRAMES;
 use places::Place;
 
 mod cache; // cache.rt: which way the words of rejected places rule a candidate
@@ -82,9 +84,12 @@ pub fn discover(
                 inputs: 1,
                 outputs: 1,
             };
+            let mut index = [0u64; MOST_FRAMES];
+            let frames = index_frames(text, &mut index);
             Discovered::Ran(search_from(
                 settings,
                 text,
+                &index[0..frames],
                 budget,
                 rejected,
                 found,

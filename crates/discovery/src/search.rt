@@ -31,12 +31,13 @@ fn next_inputs(settings: Settings, inputs: u16, prune: bool) -> u16
 fn search_inputs(
     settings: Settings,
     text: &[u8],
+    index: &[u64],
     budget: u32,
     rejected: &mut [u64],
     found: &mut [u32],
     position: Position,
 ) -> Run
-    requires { ⌜ Searchable settings (now text) × Stands (position .run) (now rejected) (now found)
+    requires { ⌜ Searchable settings (now text) (now index) × Stands (position .run) (now rejected) (now found)
         × (candidateSet (settings .activities) (settings .inputs) (position .candidate .inputs) ≡ true)
         × (position .run .visits + length (from (position .candidate .inputs) (sets (settings .activities) (settings .inputs))) < 2 ^ 32) ⌝ }
     ensures { λ r. ⌜ Leaves
@@ -51,6 +52,7 @@ fn search_inputs(
         let turn = visit_candidate(
             settings.threshold,
             text,
+            index,
             budget,
             rejected,
             found,
@@ -70,12 +72,13 @@ fn search_inputs(
 pub fn search_from(
     settings: Settings,
     text: &[u8],
+    index: &[u64],
     budget: u32,
     rejected: &mut [u64],
     found: &mut [u32],
     position: Position,
 ) -> Run
-    requires { ⌜ Searchable settings (now text) × Stands (position .run) (now rejected) (now found)
+    requires { ⌜ Searchable settings (now text) (now index) × Stands (position .run) (now rejected) (now found)
         × (candidateSet (settings .activities) (settings .inputs) (position .candidate .inputs) ≡ true)
         × (candidateSet (settings .activities) (settings .outputs) (position .candidate .outputs) ≡ true)
         × (position .run .visits + length (candidatesFrom settings (position .candidate)) < 2 ^ 32) ⌝ }
@@ -91,6 +94,7 @@ pub fn search_from(
         run = search_inputs(
             settings,
             text,
+            index,
             budget,
             rejected,
             found,

@@ -1,3 +1,4 @@
 pub mod LogPass
 pub mod FrameSteps
 pub mod FrameAt
+pub mod FrameIndex

@@ -5,6 +5,7 @@ ghost use Prim.Native.Nat.{_+_, _^_, _≤_, _<_};
 ghost use Rattle.limits.specs.Settings.{mostActivities};
 ghost use Rattle.log_format.specs.Frames.{WrittenLog};
 ghost use Rattle.log_format.specs.Lines.{framesOf};
+ghost use Rattle.event_log.specs.Stepping.{frameIndex};
 ghost use Rattle.balances.specs.Judgement.{caseCounts, casesOf, exceeds, verdictOf};
 ghost use Rattle.replay.specs.Replaying.{withCases};
 use crate::Tokens;
@@ -12,8 +13,6 @@ use crate::trace::digit_sets;
 use crate::trace::replay_trace;
 use balances::CaseCounts;
 use balances::Verdict;
-use event_log::frame::cases_at;
-use event_log::frame::trace_end;
 use log_lines::COUNT_DIGITS;
 use places::Place;
 
@@ -25,24 +24,23 @@ fn cases_where(holds: bool, cases: u64) -> u64
 }
 
 // The case counts with those of one more trace, by the signs of its least and its last balance.
-fn add_cases(counts: CaseCounts, tokens: Tokens, cases: u16) -> CaseCounts
+fn add_cases(counts: CaseCounts, tokens: Tokens, cases: u64) -> CaseCounts
     requires { ⌜ casesOf counts + cases < 2 ^ 64 ⌝ }
     ensures { λ r. ⌜ r ≡ withCases counts tokens cases ⌝ }
 {
-    let all = cases as u64;
     let underfed = tokens.least < 0;
     let overfed = tokens.balance > 0;
     CaseCounts {
-        fitting: counts.fitting + cases_where(!underfed & !overfed, all),
-        underfed: counts.underfed + cases_where(underfed & !overfed, all),
-        overfed: counts.overfed + cases_where(!underfed & overfed, all),
-        both: counts.both + cases_where(underfed & overfed, all),
+        fitting: counts.fitting + cases_where(!underfed & !overfed, cases),
+        underfed: counts.underfed + cases_where(underfed & !overfed, cases),
+        overfed: counts.overfed + cases_where(!underfed & overfed, cases),
+        both: counts.both + cases_where(underfed & overfed, cases),
     }
 }
 
-// The four case counts of a place over a log that was accepted, frame by frame.
-pub fn count_cases(text: &[u8], place: Place) -> CaseCounts
-    requires { ⌜ WrittenLog mostActivities (framesOf (now text)) (now text) ⌝ }
+// The four case counts of a place over a log that was accepted, frame by frame. The index has the cases of each and where its trace ends.
+pub fn count_cases(text: &[u8], index: &[u64], place: Place) -> CaseCounts
+    requires { ⌜ WrittenLog mostActivities (framesOf (now text)) (now text) × (now index ≡ frameIndex 0 (framesOf (now text))) ⌝ }
     ensures { λ r. ⌜ r ≡ caseCounts place (framesOf (now (text .entry))) ⌝ }
 {
     let sets = digit_sets(place);
@@ -53,12 +51,15 @@ pub fn count_cases(text: &[u8], place: Place) -> CaseCounts
         both: 0,
     };
     let mut at = 0;
-    while at < text.len() {
+    let mut frame = 0;
+    while frame < index.len() {
+        let word = index[frame];
         let start = at + COUNT_DIGITS;
-        let end = trace_end(text, start);
+        let end = (word % 4294967296) as usize;
         let tokens = replay_trace(&text[start..end], sets);
-        counts = add_cases(counts, tokens, cases_at(text, at));
+        counts = add_cases(counts, tokens, word / 4294967296);
         at = end + 1;
+        frame += 1;
     }
     counts
 }

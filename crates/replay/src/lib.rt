@@ -4,6 +4,7 @@ ghost use Prim.Native.Nat.{_≤_};
 ghost use Rattle.limits.specs.Settings.{mostActivities};
 ghost use Rattle.log_format.specs.Frames.{WrittenLog};
 ghost use Rattle.log_format.specs.Lines.{framesOf};
+ghost use Rattle.event_log.specs.Stepping.{frameIndex};
 ghost use Rattle.balances.specs.Answers.{replayed, judged};
 ghost use Rattle.balances.specs.Judgement.{verdict};
 ghost use Rattle.replay.specs.Replaying.{argumentsChecked};
@@ -15,12 +16,14 @@ use balances::Judged;
 use balances::Replayed;
 use balances::Verdict;
 use event_log::check_lines;
+use event_log::frame::index_frames;
 use event_log::frame::trace_end;
 use limits::Refusal;
 use limits::bound_and_threshold_in_range;
 use limits::bound_in_range;
 use log_format::Checked;
 use log_lines::COUNT_DIGITS;
+use log_lines::MOST_FRAMES;
 use places::Place;
 use places::place_under;
 
@@ -76,12 +79,13 @@ pub fn replay_first_trace(activities: u8, text: &[u8], place: Place) -> Replayed
     }
 }
 
-// The verdict on a place over a log that was accepted, which is not checked again.
-pub fn verdict_over(threshold: u16, text: &[u8], place: Place) -> Verdict
-    requires { ⌜ (threshold ≤ 1000) × WrittenLog mostActivities (framesOf (now text)) (now text) ⌝ }
+// The verdict on a place over a log that was accepted, and of which there is an index: nothing is checked or looked for again.
+pub fn verdict_over(threshold: u16, text: &[u8], index: &[u64], place: Place) -> Verdict
+    requires { ⌜ (threshold ≤ 1000) × WrittenLog mostActivities (framesOf (now text)) (now text)
+        × (now index ≡ frameIndex 0 (framesOf (now text))) ⌝ }
     ensures { λ r. ⌜ r ≡ verdict threshold (framesOf (now (text .entry))) place ⌝ }
 {
-    verdict_on(threshold, count_cases(text, place))
+    verdict_on(threshold, count_cases(text, index, place))
 }
 
 // Judges a place over a log at a threshold.
@@ -95,7 +99,9 @@ pub fn judge_place(activities: u8, threshold: u16, text: &[u8], place: Place) ->
             frames: _,
             cases: _,
         } => {
-            let counts = count_cases(text, place);
+            let mut index = [0u64; MOST_FRAMES];
+            let frames = index_frames(text, &mut index);
+            let counts = count_cases(text, &index[0..frames], place);
             Judged::Counted {
                 counts,
                 verdict: verdict_on(threshold, counts),

@@ -1,5 +1,5 @@
--- `discovery::discover` meets its contract: settings out of their ranges and a text that is no log are refused, and else the candidates are searched
--- from the first on.
+-- `discovery::discover` meets its contract: settings out of their ranges and a text that is no log are refused, and else the log's frames are indexed
+-- and the candidates searched from the first on.
 -- Assumes nothing.
 use native.Mathlib.Omega.{arith}
 use mathlib.Core.Path.{_≡_, refl, sym, _∙_}
@@ -7,11 +7,13 @@ use mathlib.Core.Bool.{true}
 use mathlib.Core.Option.{none}
 use borrow.Author.Needs.{needs}
 use borrow.Author.Tests.{not-true, not-false}
+use lib.Dec.{lit≤}
 use Rattle.limits.specs.Settings.{settingsInRange}
 use Rattle.limits.proofs.laws.SettingsRanges.{in-range}
 use Rattle.candidate_order.proofs.laws.Succession.{first-kind}
+use Rattle.event_log.proofs.laws.FrameIndex.{stored-room, stored-index}
 use Rattle.candidate_search.specs.Discovery.{runRefusal}
-use Rattle.discovery.proofs.laws.CallAnswers.{searchable, all-countable, refused-answers, run-answers}
+use Rattle.discovery.proofs.laws.CallAnswers.{log-known, searchable, all-countable, refused-answers, run-answers}
 use Rattle.candidate_search.proofs.laws.CallChecks.{not-refused, settings-refused, log-refused, log-accepted}
 use Rattle.discovery.proofs.discover.Statement.{statement}
 use Rattle.discovery.proofs.discover.Tie as tie
@@ -42,11 +44,20 @@ returns c =
     in
     (refused .answer-is, (refused .rejected-are, refused .found-are))
 
+index-frames-requires : tie.Need-index-frames-requires
+index-frames-requires c κs = (log-known _ _ (not-refused _ _ (log-passes (c .before))), lit≤ tt)
+
+part-search-from-end : tie.Need-part-search-from-end
+part-search-from-end c =
+    let t = c .before .before in stored-room _ _ _ _ (t .index-frames .ensures .0) (t .index-frames .ensures .1)
+
 search-from-requires : tie.Need-search-from-requires
 search-from-requires c κs =
-    let e = c .before .before in
+    let t = c .before .before .before .before .before in
+    let e = t .before .before in
     let ranges = in-range _ (settings-pass (e .before .before)) in
-    let known = searchable _ _ (not-refused _ _ (log-passes e)) in (
+    let indexed = stored-index _ _ _ _ (t .index-frames .ensures .0) (t .index-frames .ensures .1) in
+    let known = searchable _ _ _ (not-refused _ _ (log-passes e)) indexed in (
       known,
       record { goes-on = refl; rejected-there = omega arith; found-there = omega arith },
       first-kind _ _ (known .few-activities) (known .some-activities) (ranges .some-inputs),
@@ -73,7 +84,7 @@ returns-2 c =
 returns-3 : tie.Need-returns-3
 returns-3 c =
     let f = c .before .before .before .before in
-    let e = f .before .before .before in
+    let e = f .before .before .before .before .before .before .before .before in
     let k = e .before .before in
     let a = k .before .before .before .before .before .before .args in
     let ran =
@@ -98,6 +109,11 @@ discover-spec =
     (λ c κs. search needs)  -- check-log-requires
     (λ c. search needs)  -- enum-known-refusal
     (λ c. search needs)  -- enum-told
+    (λ c. search needs)  -- slice-aggregate-index-frames
+    index-frames-requires
+    (λ c. search needs)  -- sub-search-from
+    (λ c. search needs)  -- part-search-from-start
+    part-search-from-end
     search-from-requires
     returns-2
     (λ c. search needs)  -- same-length

@@ -9,13 +9,17 @@ use mathlib.Core.Option.{none, some}
 use lib.ListN.{length}
 use Rattle.limits.specs.declared.Refusal.{Refusal}
 use Rattle.limits.specs.declared.Settings.{Settings}
+use Rattle.limits.specs.Settings.{mostActivities}
 use Rattle.limits.proofs.laws.SettingsRanges.{InRange}
 use Rattle.places.specs.Places.{place}
 use Rattle.places.specs.Candidates.{candidates, sets}
 use Rattle.places.specs.Succession.{candidatesFrom}
 use Rattle.candidate_order.proofs.laws.CandidateOrder.{fewer-candidates}
 use Rattle.candidate_order.proofs.laws.Succession.{from-first}
+use Rattle.log_format.specs.Frames.{WrittenLog}
+use Rattle.log_format.specs.Lines.{framesOf}
 use Rattle.log_format.proofs.laws.WiderBound.{log-wider}
+use Rattle.event_log.specs.Stepping.{frameIndex}
 use Rattle.candidate_search.specs.declared.Discovered.{Discovered}
 use Rattle.candidate_search.specs.declared.Discovered.the-variants.{Ran, Refused}
 use Rattle.candidate_search.specs.declared.Run.{Run}
@@ -25,15 +29,20 @@ use Rattle.discovery.specs.Standing.{Searchable, stateIn, carriedOn, Lea
 use Rattle.candidate_search.proofs.laws.CallChecks.{NotRefused}
 use Rattle.discovery.proofs.laws.OutputsLeft.{rows-whole}
 
--- what the checks leave known is enough for the search
-pub searchable : (s : Settings) (text : List ℕ) → NotRefused s text → Searchable s text
-searchable s text known =
+-- the text is a log under the widest bound
+pub log-known : (s : Settings) (text : List ℕ) → NotRefused s text → WrittenLog mostActivities (framesOf text) text
+log-known s text known = log-wider (known .settings .few-activities) (known .log)
+
+-- what the checks leave known, with the index of the log's frames, is enough for the search
+pub searchable : (s : Settings) (text index : List ℕ) → NotRefused s text → index ≡ frameIndex 0 (framesOf text) → Searchable s text index
+searchable s text index known e =
     record {
       some-activities = omega (arith, known .settings .some-activities);
       few-activities = known .settings .few-activities;
       some-inputs = known .settings .some-inputs;
       small-threshold = known .settings .small-threshold;
-      log = log-wider (known .settings .few-activities) (known .log);
+      log = log-known s text known;
+      indexed = e;
     }
 
 -- nothing counted, nothing found

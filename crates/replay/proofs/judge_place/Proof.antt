@@ -1,16 +1,18 @@
--- `replay::judge_place` meets its contract: it refuses what the arguments' checks refuse. Where they pass, the text is a log, whose cases are
--- counted, and the counts give the verdict.
+-- `replay::judge_place` meets its contract: it refuses what the arguments' checks refuse. Where they pass, the text is a log, whose index is made
+-- and whose cases are counted, and the counts give the verdict.
 -- Assumes nothing.
 use Prim.Native.Nat.{_≤_}
 use mathlib.Core.Path.{sym, _∙_}
 use mathlib.Core.Bool.{_&&_, and-eq-true-iff}
 use borrow.Author.Needs.{needs}
 use borrow.Author.Tests.{leb-true}
+use lib.Dec.{lit≤}
 use Rattle.limits.specs.Settings.{mostActivities, boundInRange, thresholdInRange}
 use Rattle.log_format.specs.Frames.{WrittenLog}
 use Rattle.log_format.specs.Lines.{framesOf}
 use Rattle.log_format.proofs.laws.Written.{bound-most}
 use Rattle.log_format.proofs.laws.WiderBound.{log-wider}
+use Rattle.event_log.proofs.laws.FrameIndex.{stored-room, stored-index}
 use Rattle.replay.proofs.laws.Arguments.{Passed, accepted, judge-refused, judge-accepted}
 use Rattle.replay.proofs.laws.FrameByFrame.{verdict-counted, counts-bounded}
 use Rattle.replay.proofs.judge_place.Statement.{statement}
@@ -41,11 +43,24 @@ small c =
     let a = c .before .before .before .before .before .args in
     leb-true _ _ (and-eq-true-iff (boundInRange (a .activities)) (thresholdInRange (a .threshold)) .0 (passed c .settings) .1)
 
+index-frames-requires : tie.Need-index-frames-requires
+index-frames-requires c κs = (log (c .before), lit≤ tt)
+
+part-count-cases-end : tie.Need-part-count-cases-end
+part-count-cases-end c =
+    let t = c .before .before in stored-room _ _ _ _ (t .index-frames .ensures .0) (t .index-frames .ensures .1)
+
 count-cases-requires : tie.Need-count-cases-requires
-count-cases-requires c κs = log c
+count-cases-requires c κs =
+    let t = c .before .before .before in
+    (log (t .before .before), stored-index _ _ _ _ (t .index-frames .ensures .0) (t .index-frames .ensures .1))
+
+-- the arguments had passed before the cases were counted
+abbrev told : tie.After-count-cases → tie.After-enum-told
+told c = c .before .before .before .before .before .before
 
 verdict-on-requires : tie.Need-verdict-on-requires
-verdict-on-requires c κs = (small (c .before), rw (c .count-cases .ensures) (counts-bounded _ _ (log (c .before))))
+verdict-on-requires c κs = (small (told c), rw (c .count-cases .ensures) (counts-bounded _ _ (log (told c))))
 
 returns : tie.Need-returns
 returns c =
@@ -56,7 +71,7 @@ returns c =
 returns-2 : tie.Need-returns-2
 returns-2 c =
     let k = c .before in
-    rw (c .verdict-on .ensures, k .count-cases .ensures, verdict-counted _ _ _) (judge-accepted _ _ _ _ (passed (k .before)))
+    rw (c .verdict-on .ensures, k .count-cases .ensures, verdict-counted _ _ _) (judge-accepted _ _ _ _ (passed (told k)))
 
 pub judge-place-spec : {M : Type 1} → statement M
 judge-place-spec =
@@ -66,6 +81,11 @@ judge-place-spec =
     (λ c κs. search needs)  -- check-arguments-requires
     (λ c. search needs)  -- enum-known-refusal
     (λ c. search needs)  -- enum-told
+    (λ c. search needs)  -- slice-aggregate-index-frames
+    index-frames-requires
+    (λ c. search needs)  -- sub-count-cases
+    (λ c. search needs)  -- part-count-cases-start
+    part-count-cases-end
     count-cases-requires
     verdict-on-requires
     returns

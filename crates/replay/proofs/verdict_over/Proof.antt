@@ -8,7 +8,7 @@ use Rattle.replay.proofs.verdict_over.Tie as tie
 
 verdict-on-requires : tie.Need-verdict-on-requires
 verdict-on-requires c κs =
-    let k = c .before in (k .before .pre .0, rw (c .count-cases .ensures) (counts-bounded _ _ (k .before .pre .1)))
+    let k = c .before .before in (k .before .pre .0, rw (c .count-cases .ensures) (counts-bounded _ _ (k .before .pre .1)))
 
 returns : tie.Need-returns
 returns c = rw (c .verdict-on .ensures, c .before .count-cases .ensures) (verdict-counted _ _ _)

@@ -15,21 +15,21 @@ use Rattle.discovery.proofs.candidate.visit_candidate.Tie as tie
 
 -- the words at the front of the buffer are those of the state
 ruled : (c : tie.After-ruling-by)
-    → let a = c .before .before .before .before .before .before .args in
+    → let a = c .before .before .before .before .before .before .before .args in
     c .ruling-by .result ≡ rulingOf (stateIn (a .run) (a .rejected .now) (a .found .now) .rejected) (a .candidate)
 unfolding stateIn
-ruled c = rw (sub-zero (c .before .before .before .before .before .before .args .run .rejected)) at (c .ruling-by .ensures)
+ruled c = rw (sub-zero (c .before .before .before .before .before .before .before .args .run .rejected)) at (c .ruling-by .ensures)
 
 returns : tie.Need-returns
 returns c =
     let k = c .before .before .before .before in
-    let s = k .before .before .before .before .before .before in
+    let s = k .before .before .before .before .before .before .before in
     let a = s .args in
     budget-spent
     _
     (a .budget)
     (a .candidate)
-    (s .pre .2)
+    (s .pre .3)
     (sym (ruled k) ∙ c .before .before .enum-told3 .given .1)
     (omega (arith, c .if1 .taken))
 
@@ -38,7 +38,7 @@ unfolding stateIn
 conclude-turn-requires c κs =
     let e = c .before .before .before .before .before .before .before in
     let k = e .before .before in
-    let stands = k .before .before .before .before .before .before .pre .2 in (
+    let stands = k .before .before .before .before .before .before .before .pre .3 in (
       record { goes-on = stands .goes-on; rejected-there = stands .rejected-there; found-there = stands .found-there },
       sym (ruled k) ∙ e .enum-told3 .given .1,
     )
@@ -46,16 +46,16 @@ conclude-turn-requires c κs =
 returns-2 : tie.Need-returns-2
 returns-2 c =
     let k = c .before .before .before in
-    let s = k .before .before .before .before .before .before in
+    let s = k .before .before .before .before .before .before .before in
     let a = s .args in
-    skipped _ (a .budget) (a .candidate) (s .pre .2) AsOverfed (sym (ruled k) ∙ c .before .enum-told .given .1) refl
+    skipped _ (a .budget) (a .candidate) (s .pre .3) AsOverfed (sym (ruled k) ∙ c .before .enum-told .given .1) refl
 
 returns-3 : tie.Need-returns-3
 returns-3 c =
     let k = c .before .before .before in
-    let s = k .before .before .before .before .before .before in
+    let s = k .before .before .before .before .before .before .before in
     let a = s .args in
-    skipped _ (a .budget) (a .candidate) (s .pre .2) AsUnderfed (sym (ruled k) ∙ c .before .enum-told2 .given .1) refl
+    skipped _ (a .budget) (a .candidate) (s .pre .3) AsUnderfed (sym (ruled k) ∙ c .before .enum-told2 .given .1) refl
 
 returns-4 : tie.Need-returns-4
 returns-4 c =
@@ -63,14 +63,14 @@ returns-4 c =
     let v = t .before .before .before in
     let e = v .before .before .before .before .before in
     let k = e .before .before in
-    let s = k .before .before .before .before .before .before in
+    let s = k .before .before .before .before .before .before .before in
     let a = s .args in
     rw (
       replays-it
           (verdict (a .threshold) (framesOf (a .text .now)))
           (a .budget)
           (a .candidate)
-          (s .pre .2)
+          (s .pre .3)
           (sym (ruled k) ∙ e .enum-told3 .given .1)
           (omega (arith, v .before .before .before .if1 .left)),
       sym (v .verdict-over .ensures),

@@ -15,7 +15,7 @@ use Rattle.discovery.proofs.search.search_from.Statement.{statement}
 use Rattle.discovery.proofs.search.search_from.Tie as tie
 
 abbrev Inv-loop : tie.InvT-loop
-Inv-loop settings text budget rejected₀ found₀ run₀ inputs₀ outputs₀ rejected found run inputs outputs =
+Inv-loop settings text index budget rejected₀ found₀ run₀ inputs₀ outputs₀ rejected found run inputs outputs =
     OutputsLeft
     (record {
       verdict = verdict (settings .threshold) (framesOf text);
@@ -35,26 +35,26 @@ Inv-loop settings text budget rejected₀ found₀ run₀ inputs₀ outputs₀ r
     found
 
 abbrev μ-loop : tie.MeasureT-loop
-μ-loop settings text budget rejected₀ found₀ run₀ inputs₀ outputs₀ rejected found run inputs outputs =
+μ-loop settings text index budget rejected₀ found₀ run₀ inputs₀ outputs₀ rejected found run inputs outputs =
     length (from outputs (sets (settings .activities) (settings .outputs)))
 
 loop-holds : tie.Need-loop-holds Inv-loop μ-loop
 unfolding candidatesFrom
 loop-holds c =
-    let pre = c .before .before .before .before .pre in
+    let pre = c .before .before .before .before .before .pre in
     record { inputs = pre .2; outputs = inr (pre .3); reached = reached-start _ (pre .1); countable = pre .4 }
 
 -- what is known of the settings
-ranges : (c : tie.At-loop Inv-loop μ-loop) → let s = c .before .before .before .before .before .args .settings in Ranges (s .activities) (s .inputs)
+ranges : (c : tie.At-loop Inv-loop μ-loop) → let s = c .before .before .before .before .before .before .args .settings in Ranges (s .activities) (s .inputs)
 ranges c =
-    let known = c .before .before .before .before .before .pre .0 in
+    let known = c .before .before .before .before .before .before .pre .0 in
     record { few = known .few-activities; some-codes = known .some-activities; some-inputs = known .some-inputs }
 
 search-inputs-requires : tie.Need-search-inputs-requires Inv-loop μ-loop
 search-inputs-requires c κs =
     let l = c .before .before .before in
     let inv = l .loop .inv in (
-      l .before .before .before .before .before .pre .0,
+      l .before .before .before .before .before .before .pre .0,
       inv .reached .stands,
       inv .inputs,
       row-countable (ranges l) inv (c .before .before .loop-test .taken),
@@ -91,8 +91,8 @@ loop-again c =
     (v .before .before .before .loop-test .taken)
     (v .search-inputs .ensures)
     (omega (arith, c .before .if1 .left))
-    (v .search-inputs .kept .1 .1 .1 .0)
     (v .search-inputs .kept .1 .1 .1 .1 .0)
+    (v .search-inputs .kept .1 .1 .1 .1 .1 .0)
     )
 
 returns-2 : tie.Need-returns-2 Inv-loop μ-loop
@@ -109,10 +109,10 @@ search-from-spec =
     search-inputs-requires
     (λ c.
     let v = c .before .before .before .before .before .before in
-    v .search-inputs .kept .1 .1 .1 .0 ∙ v .before .before .before .before .loop .inv .reached .rejected-length)  -- same-length
+    v .search-inputs .kept .1 .1 .1 .1 .0 ∙ v .before .before .before .before .loop .inv .reached .rejected-length)  -- same-length
     (λ c.
     let v = c .before .before .before .before .before .before in
-    v .search-inputs .kept .1 .1 .1 .1 .0 ∙ v .before .before .before .before .loop .inv .reached .found-length)  -- same-length-2
+    v .search-inputs .kept .1 .1 .1 .1 .1 .0 ∙ v .before .before .before .before .loop .inv .reached .found-length)  -- same-length-2
     returns
     set-after-requires
     loop-less

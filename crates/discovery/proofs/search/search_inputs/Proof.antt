@@ -14,7 +14,7 @@ use Rattle.discovery.proofs.search.search_inputs.Statement.{statement}
 use Rattle.discovery.proofs.search.search_inputs.Tie as tie
 
 abbrev Inv-loop : tie.InvT-loop
-Inv-loop settings text budget rejected₀ found₀ outputs run₀ inputs₀ rejected found run inputs =
+Inv-loop settings text index budget rejected₀ found₀ outputs run₀ inputs₀ rejected found run inputs =
     InputsLeft
     (record {
       verdict = verdict (settings .threshold) (framesOf text);
@@ -33,23 +33,25 @@ Inv-loop settings text budget rejected₀ found₀ outputs run₀ inputs₀ reje
     found
 
 abbrev μ-loop : tie.MeasureT-loop
-μ-loop settings text budget rejected₀ found₀ outputs run₀ inputs₀ rejected found run inputs =
+μ-loop settings text index budget rejected₀ found₀ outputs run₀ inputs₀ rejected found run inputs =
     length (inputsFrom (settings .activities) (settings .inputs) outputs inputs)
 
 loop-holds : tie.Need-loop-holds Inv-loop μ-loop
 loop-holds c =
-    let pre = c .before .before .before .before .pre in
+    let pre = c .before .before .before .before .before .pre in
     record { set = inr (pre .2); reached = reached-start _ (pre .1); countable = rw (length-map) (pre .3) }
 
 -- what is known of the settings and the log
-known : (c : tie.At-loop Inv-loop μ-loop) → let a = c .before .before .before .before .before .args in Searchable (a .settings) (a .text .now)
-known c = c .before .before .before .before .before .pre .0
+known : (c : tie.At-loop Inv-loop μ-loop)
+    → let a = c .before .before .before .before .before .before .args in Searchable (a .settings) (a .text .now) (a .index .now)
+known c = c .before .before .before .before .before .before .pre .0
 
 visit-candidate-requires : tie.Need-visit-candidate-requires Inv-loop μ-loop
 visit-candidate-requires c κs =
     let l = c .before .before .before in (
       known l .small-threshold,
       known l .log,
+      known l .indexed,
       l .loop .inv .reached .stands,
       one-more (known l .few-activities) (l .loop .inv) (c .before .before .loop-test .taken),
     )
@@ -88,8 +90,8 @@ loop-again c =
     (turn .1)
     (turn .0)
     (omega (arith, c .before .before .if1 .left))
-    (v .visit-candidate .kept .1 .1 .1 .0)
     (v .visit-candidate .kept .1 .1 .1 .1 .0)
+    (v .visit-candidate .kept .1 .1 .1 .1 .1 .0)
     )
 
 returns-2 : tie.Need-returns-2 Inv-loop μ-loop
@@ -103,8 +105,8 @@ search-inputs-spec =
     μ-loop
     loop-holds
     visit-candidate-requires
-    (λ c. let v = c .before .before .before .before .before .before .before in v .visit-candidate .kept .1 .1 .1 .0 ∙ v .before .before .before .before .loop .inv .reached .rejected-length)  -- same-length
-    (λ c. let v = c .before .before .before .before .before .before .before in v .visit-candidate .kept .1 .1 .1 .1 .0 ∙ v .before .before .before .before .loop .inv .reached .found-length)  -- same-length-2
+    (λ c. let v = c .before .before .before .before .before .before .before in v .visit-candidate .kept .1 .1 .1 .1 .0 ∙ v .before .before .before .before .loop .inv .reached .rejected-length)  -- same-length
+    (λ c. let v = c .before .before .before .before .before .before .before in v .visit-candidate .kept .1 .1 .1 .1 .1 .0 ∙ v .before .before .before .before .loop .inv .reached .found-length)  -- same-length-2
     returns
     next-inputs-requires
     loop-less
