@@ -2,8 +2,8 @@
 ghost use mathlib.Core.Path.{_≡_};
 ghost use Prim.Native.Nat.{_≤_, _<_};
 ghost use Rattle.places.specs.Sets.{has};
-ghost use Rattle.redundancy.specs.Cover.{choices, inputCount, outputCount, balanced};
-ghost use Rattle.exact_cover.specs.Choosing.{Tallied, Fewest, Chosen};
+ghost use Rattle.redundancy.specs.Cover.{inputCount, outputCount, balanced};
+ghost use Rattle.exact_cover.specs.Choosing.{Tallied, Growable, Grown, Counts, Fewest, Chosen};
 use crate::Choice;
 use crate::Tally;
 use crate::is_usable;
@@ -82,24 +82,33 @@ fn highest_of(activities: u32) -> u32
     31 - u32::leading_zeros(activities)
 }
 
-// How many words can be the next part and cover an activity.
-fn choices_of(words: &[u32], whole: u32, left: u32, activity: u32) -> usize
-    requires { ⌜ activity < 32 ⌝ }
-    ensures { λ r. ⌜ r ≡ choices (now (words .entry)) whole left activity ⌝ }
+// Counts each activity of a word once more.
+fn count_word(word: u32, counts: &mut [usize; 32])
+    requires { ⌜ Growable (now counts) ⌝ }
+    ensures { λ _. ⌜ Grown word (now (counts .entry)) (now (counts .exit)) ⌝ }
 {
-    let mut count = 0;
+    let mut rest = word;
+    while rest != 0 {
+        let activity = highest_of(rest);
+        counts[activity as usize] += 1;
+        rest -= 1 << activity;
+    }
+}
+
+// For each activity, how many words can be the next part and cover it.
+fn count_choices(words: &[u32], whole: u32, left: u32) -> [usize; 32]
+    ensures { λ r. ⌜ Counts (now (words .entry)) whole left r ⌝ }
+{
+    let mut counts = [0usize; 32];
     let mut at = 0;
     while at < words.len() {
         let word = words[at];
         at += 1;
-        if (word >> activity) % 2 == 0 {
-            continue;
-        }
         if is_usable(word, whole, left) {
-            count += 1;
+            count_word(word, &mut counts);
         }
     }
-    count
+    counts
 }
 
 // An activity that the fewest words can cover.
@@ -107,8 +116,9 @@ fn rarest_of(words: &[u32], whole: u32, left: u32) -> u32
     requires { ⌜ 0 < left ⌝ }
     ensures { λ r. ⌜ Fewest (now (words .entry)) whole left r ⌝ }
 {
+    let counts = count_choices(words, whole, left);
     let mut rarest = highest_of(left);
-    let mut fewest = choices_of(words, whole, left, rarest);
+    let mut fewest = counts[rarest as usize];
     let mut next = 0;
     while next < 32 {
         let activity = next;
@@ -116,7 +126,7 @@ fn rarest_of(words: &[u32], whole: u32, left: u32) -> u32
         if (left >> activity) % 2 == 0 {
             continue;
         }
-        let count = choices_of(words, whole, left, activity);
+        let count = counts[activity as usize];
         if count < fewest {
             rarest = activity;
             fewest = count;

@@ -1,20 +1,21 @@
 -- The words that can be the next part and cover an activity, counted one word after the other: a word that can be the next part adds one to the
 -- choices of each of its activities.
 -- Assumes nothing.
-use Prim.Native.Nat.{ℕ, _+_, _≤_, _<_}
+use Prim.Native.Nat.{ℕ, _+_, _^_, _≤_, _<_}
 use native.Mathlib.Numerals.{add-one}
 use native.Mathlib.Omega.{arith}
 use mathlib.Core.Path.{_≡_, refl, ap, _∙_}
 use mathlib.Core.Bool.{Bool, true, false, cond, _&&_}
 use mathlib.Core.List.{List, [], _∷_, _++_}
 use borrow.Author.Tests.{eqb-true, eqb-false}
-use lib.ListN.{length, getD, take, length-append}
+use lib.ListN.{length, getD, take, replicate, length-append, getD-replicate}
 use lib.Seq.{take-suc, take-all}
 use Rattle.foundation.specs.Lists.{keep}
 use Rattle.foundation.proofs.laws.Booleans.{by-test}
 use Rattle.foundation.proofs.laws.Lists.{keep-append}
 use Rattle.places.specs.Sets.{has, member}
 use Rattle.redundancy.specs.Cover.{usable, choices}
+use Rattle.exact_cover.specs.Choosing.{Growable, Grown, Counts}
 
 module _ (whole left : ℕ) (words : List ℕ) (w : ℕ) where
   -- the choices with one word more
@@ -40,40 +41,50 @@ module _ (whole left : ℕ) (words : List ℕ) (w : ℕ) where
           (λ e. rw e (omega (arith, eqb-false (has w a) 1 e)))
 
 -- those before an index were counted
-pub record Counted (words : List ℕ) (whole left a count at : ℕ) : Type 0 where
+pub record Counted (words : List ℕ) (whole left : ℕ) (counts : List ℕ) (at : ℕ) : Type 0 where
   pub reached : at ≤ length words
-  pub few : count ≤ at
-  pub counted : count ≡ choices (take at words) whole left a
+  pub wide : length counts ≡ 32
+  pub few : (a : ℕ) → a < 32 → getD counts a 0 ≤ at
+  pub counted : Counts (take at words) whole left counts
 
-module _ {words : List ℕ} {whole left a : ℕ} where
-  pub none-counted : Counted words whole left a 0 0
+module _ {words : List ℕ} {whole left : ℕ} where
+  pub none-counted : Counted words whole left (replicate 32 0) 0
   unfolding choices
-  none-counted = record { reached = omega arith; few = omega arith; counted = refl }
+  none-counted =
+      record {
+        reached = omega arith;
+        wide = refl;
+        few = λ a l. omega (arith, getD-replicate {A = ℕ} 32 a 0 0 l);
+        counted = λ a l. getD-replicate {A = ℕ} 32 a 0 0 l;
+      }
 
-  module _ {count at : ℕ} (c : Counted words whole left a count at) (l : at < length words) where
-    next : choices (take (at + 1) words) whole left a ≡ choices (take at words ++ (getD words at 0 ∷ [])) whole left a
-    next = ap (λ (some : List ℕ). choices some whole left a) (ap (λ (n : ℕ). take n words) (add-one at) ∙ take-suc words at 0 l)
+  module _ {counts : List ℕ} {at : ℕ} (c : Counted words whole left counts at) (l : at < length words) where
+    next : (a : ℕ) → choices (take (at + 1) words) whole left a ≡ choices (take at words ++ (getD words at 0 ∷ [])) whole left a
+    next a = ap (λ (some : List ℕ). choices some whole left a) (ap (λ (n : ℕ). take n words) (add-one at) ∙ take-suc words at 0 l)
 
-    unused : usable whole left (getD words at 0) ≡ false → choices (take (at + 1) words) whole left a ≡ count
-    unused e = omega (arith, next, choices-same whole left (take at words) (getD words at 0) e a, c .counted)
+    -- a count is at most the number of words so far, so it can grow
+    pub growable : length words < 2 ^ 64 → Growable counts
+    growable fits = record { wide = c .wide; small = λ a small. omega (arith, l, c .few a small) }
 
-    used : usable whole left (getD words at 0) ≡ true → choices (take (at + 1) words) whole left a ≡ count + has (getD words at 0) a
-    used e = omega (arith, next, choices-one whole left (take at words) (getD words at 0) e a, c .counted)
-
-    -- a word that does not have the activity, one that cannot be the next part, and one that counts
-    pub without : has (getD words at 0) a ≡ 0 → Counted words whole left a count (at + 1)
-    without e =
+    -- a word that cannot be the next part, and one that can
+    pub not-usable : usable whole left (getD words at 0) ≡ false → Counted words whole left counts (at + 1)
+    not-usable e =
         record {
           reached = omega (arith, l);
-          few = omega (arith, c .few);
-          counted = by-test (usable whole left (getD words at 0)) (λ u. omega (arith, used u)) (λ u. omega (arith, unused u));
+          wide = c .wide;
+          few = λ a small. omega (arith, c .few a small);
+          counted = λ a small. omega (arith, next a, choices-same whole left (take at words) (getD words at 0) e a, c .counted a small);
         }
 
-    pub not-usable : usable whole left (getD words at 0) ≡ false → Counted words whole left a count (at + 1)
-    not-usable u = record { reached = omega (arith, l); few = omega (arith, c .few); counted = omega (arith, unused u) }
+    pub counts-word : {after : List ℕ} → usable whole left (getD words at 0) ≡ true
+        → Grown (getD words at 0) counts after → Counted words whole left after (at + 1)
+    counts-word e grown =
+        record {
+          reached = omega (arith, l);
+          wide = grown .wide;
+          few = λ a small. omega (arith, c .few a small, grown .counted a small);
+          counted = λ a small. omega (arith, next a, choices-one whole left (take at words) (getD words at 0) e a, c .counted a small, grown .counted a small);
+        }
 
-    pub counts : usable whole left (getD words at 0) ≡ true → (has (getD words at 0) a ≡ 0 → ⊥) → Counted words whole left a (count + 1) (at + 1)
-    counts u some = record { reached = omega (arith, l); few = omega (arith, c .few); counted = omega (arith, used u, some) }
-
-  pub all-counted : {count at : ℕ} → Counted words whole left a count at → length words ≤ at → count ≡ choices words whole left a
+  pub all-counted : {counts : List ℕ} {at : ℕ} → Counted words whole left counts at → length words ≤ at → Counts words whole left counts
   all-counted {at = at} c end = rw (take-all at words end) at (c .counted)
