@@ -1,4 +1,4 @@
--- The words that can be parts of a place, gathered in a buffer: all of them from its front, and then what it held beyond them. Where they are more
+-- The words that can be parts of what is left of a place, gathered in a buffer: all of them from its front, and then what it held beyond them. Where they are more
 -- than it takes, what it holds is free: it is not read again.
 -- Assumes nothing.
 use Prim.Native.Nat.{ℕ, _<_}
@@ -11,7 +11,7 @@ use Rattle.reduction.specs.declared.Gathered.{Gathered}
 use Rattle.reduction.specs.declared.Gathered.the-variants.{All, TooMany}
 
 -- what the buffer held before and after, and the answer
-unfoldable pub GatheredAs : List ℕ → ℕ → List ℕ → List ℕ → Gathered → Type 0
-GatheredAs words whole before after (All count) =
-    (count ≡ length (partsOf words whole)) × (after ≡ overwrite (partsOf words whole) before)
-GatheredAs words whole before after TooMany = length before < length (partsOf words whole)
+unfoldable pub GatheredAs : List ℕ → ℕ → ℕ → List ℕ → List ℕ → Gathered → Type 0
+GatheredAs words whole left before after (All count) =
+    (count ≡ length (partsOf words whole left)) × (after ≡ overwrite (partsOf words whole left) before)
+GatheredAs words whole left before after TooMany = length before < length (partsOf words whole left)

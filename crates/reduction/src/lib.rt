@@ -12,7 +12,7 @@ use redundancy::Reduced;
 
 mod union; // union.rt: whether a place is a union of others
 
-// Whether the words that can be parts of a place fitted a buffer, and how many they are.
+// Whether the words that can be parts of what is left fitted a buffer, and how many they are.
 pub enum Gathered {
     All(usize),
     TooMany,

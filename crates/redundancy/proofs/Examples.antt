@@ -56,7 +56,8 @@ pub record Examples : Type 0 where
   pub part : usable (pair 7 7) (pair 6 6) (pair 2 4) ≡ true
   pub taken : usable (pair 7 7) (pair 6 6) (pair 1 2) ≡ false
   pub itself : usable (pair 7 7) (pair 7 7) (pair 7 7) ≡ false
-  pub parts : partsOf (pair 8 1 ∷ three) (pair 7 7) ≡ pair 1 1 ∷ pair 2 2 ∷ pair 4 4 ∷ []
+  pub parts : partsOf (pair 8 1 ∷ three) (pair 7 7) (pair 7 7) ≡ pair 1 1 ∷ pair 2 2 ∷ pair 4 4 ∷ []
+  pub parts-of-rest : partsOf (pair 8 1 ∷ three) (pair 7 7) (pair 6 6) ≡ pair 2 2 ∷ pair 4 4 ∷ []
   pub choice : choices (pair 3 1 ∷ three) (pair 7 7) (pair 7 7) 0 ≡ 2
   pub no-choice : choices three (pair 7 7) (pair 6 6) 0 ≡ 0
   -- single pairs make up as many inputs as outputs, and no more
@@ -104,6 +105,7 @@ examples =
       taken = refl;
       itself = refl;
       parts = refl;
+      parts-of-rest = refl;
       choice = refl;
       no-choice = refl;
       evenly = refl;

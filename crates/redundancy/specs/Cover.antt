@@ -28,9 +28,9 @@ pub data Cover (words : List ℕ) (whole : ℕ) : ℕ → Type 0 where
   nothing-left : Cover words whole 0
   take-part : {left : ℕ} (w : ℕ) → List·Memᴰ w words → usable whole left w ≡ true → Cover words whole (left - w) → Cover words whole left
 
--- the words of the list that can be parts of a whole
-unfoldable pub partsOf : List ℕ → ℕ → List ℕ
-partsOf words whole = keep (usable whole whole) words
+-- the words of the list that can be parts of what is left of a whole
+unfoldable pub partsOf : List ℕ → ℕ → ℕ → List ℕ
+partsOf words whole left = keep (usable whole left) words
 
 -- how many words of the list can be the next part and cover an activity
 unfoldable pub choices : List ℕ → ℕ → ℕ → ℕ → ℕ

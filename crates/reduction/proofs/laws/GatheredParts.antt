@@ -21,22 +21,22 @@ use Rattle.reduction.specs.declared.Gathered.{Gathered}
 use Rattle.reduction.specs.declared.Gathered.the-variants.{All}
 use Rattle.reduction.specs.Gathering.{GatheredAs}
 
-module _ (words : List ℕ) (whole : ℕ) (before after : List ℕ) (answer : Gathered) (gathered : GatheredAs words whole before after answer)
+module _ (words : List ℕ) (whole left : ℕ) (before after : List ℕ) (answer : Gathered) (gathered : GatheredAs words whole left before after answer)
     (count : ℕ) (all : answer ≡ All count) where
-  parts-first : GatheredAs words whole before after (All count)
-  parts-first = subst (GatheredAs words whole before after) all gathered
+  parts-first : GatheredAs words whole left before after (All count)
+  parts-first = subst (GatheredAs words whole left before after) all gathered
 
   pub gathered-room : count ≤ length after
   unfolding GatheredAs
   gathered-room =
       let (counted, written) = parts-first in
-      omega (arith, counted, ap length written, length-append (partsOf words whole) (drop (length (partsOf words whole)) before))
+      omega (arith, counted, ap length written, length-append (partsOf words whole left) (drop (length (partsOf words whole left)) before))
 
-  pub gathered-parts : take (count - 0) after ≡ partsOf words whole
+  pub gathered-parts : take (count - 0) after ≡ partsOf words whole left
   unfolding GatheredAs
   gathered-parts =
       let (counted, written) = parts-first in
-      ap₂ (λ (n : ℕ) (buffer : List ℕ). take n buffer) (sub-zero count ∙ counted) written ∙ take-overwritten before (partsOf words whole)
+      ap₂ (λ (n : ℕ) (buffer : List ℕ). take n buffer) (sub-zero count ∙ counted) written ∙ take-overwritten before (partsOf words whole left)
 
 module _ (words : List ℕ) (places : Listable words) (whole : ℕ) (place : placeUnder mostActivities (placeOf whole) ≡ true) {answer : Bool} where
   -- an answer by a search over the whole list, and over the parts alone
@@ -45,5 +45,5 @@ module _ (words : List ℕ) (places : Listable words) (whole : ℕ) (place : pla
       let same = redundant-cover places whole place in
       same-truth (λ e. same .1 (right .0 e)) (λ e. right .1 (same .0 e))
 
-  pub found-in-parts : (answer ≡ true) ↔ Cover (partsOf words whole) whole whole → answer ≡ redundant words whole
-  found-in-parts right = found-in-list (λ e. cover-parts .0 (right .0 e), λ cover. right .1 (cover-parts .1 cover))
+  pub found-in-parts : (answer ≡ true) ↔ Cover (partsOf words whole whole) whole whole → answer ≡ redundant words whole
+  found-in-parts right = found-in-list (λ e. cover-parts whole .0 (right .0 e), λ cover. right .1 (cover-parts whole .1 cover))

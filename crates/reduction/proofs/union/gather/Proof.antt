@@ -14,10 +14,10 @@ use Rattle.reduction.proofs.union.gather.Statement.{statement}
 use Rattle.reduction.proofs.union.gather.Tie as tie
 
 abbrev Inv-loop : tie.InvT-loop
-Inv-loop words whole parts₀ count₀ at₀ parts count at = KeptSo (usable whole whole) words parts₀ parts count at
+Inv-loop words whole left parts₀ count₀ at₀ parts count at = KeptSo (usable whole left) words parts₀ parts count at
 
 abbrev μ-loop : tie.MeasureT-loop
-μ-loop words whole parts₀ count₀ at₀ parts count at = length words - at
+μ-loop words whole left parts₀ count₀ at₀ parts count at = length words - at
 
 pub gather-spec : {M : Type 1} → statement M
 unfolding GatheredAs partsOf

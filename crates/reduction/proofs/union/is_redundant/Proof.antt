@@ -10,15 +10,15 @@ use Rattle.reduction.proofs.union.is_redundant.Tie as tie
 part-is-covered-end : tie.Need-part-is-covered-end
 part-is-covered-end c =
     let k = c .before .before in
-    gathered-room _ _ _ _ _ (k .before .before .before .before .gather .ensures) _ (k .count .given .1)
+    gathered-room _ _ _ _ _ _ (k .before .before .before .before .gather .ensures) _ (k .count .given .1)
 
 is-covered-requires : tie.Need-is-covered-requires
 is-covered-requires c κs =
     let k = c .before .before .before in
     let g = k .before .before .before .before in
     let entry = g .before .before .before .before in
-    rw (gathered-parts (entry .args .words .now) (entry .args .whole) _ _ _ (g .gather .ensures) _ (k .count .given .1))
-    (parts-listable _ _ (entry .pre .0))
+    rw (gathered-parts (entry .args .words .now) (entry .args .whole) (entry .args .whole) _ _ _ (g .gather .ensures) _ (k .count .given .1))
+    (parts-listable _ _ _ (entry .pre .0))
 
 returns : tie.Need-returns
 returns c =
@@ -26,7 +26,7 @@ returns c =
     let g = k .before .before .before .before in
     let entry = g .before .before .before .before in
     found-in-parts (entry .args .words .now) (entry .pre .0) (entry .args .whole) (entry .pre .1)
-    (rw (gathered-parts (entry .args .words .now) (entry .args .whole) _ _ _ (g .gather .ensures) _ (k .count .given .1))
+    (rw (gathered-parts (entry .args .words .now) (entry .args .whole) (entry .args .whole) _ _ _ (g .gather .ensures) _ (k .count .given .1))
     at (c .is-covered .ensures))
 
 returns-2 : tie.Need-returns-2
