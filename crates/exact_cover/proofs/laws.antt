@@ -4,3 +4,5 @@ pub mod Tallying
 pub mod Balancing
 pub mod Rarity
 pub mod Trying
+pub mod KeptWords
+pub mod GatheredParts

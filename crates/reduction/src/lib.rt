@@ -12,12 +12,6 @@ use redundancy::Reduced;
 
 mod union; // union.rt: whether a place is a union of others
 
-// Whether the words that can be parts of what is left fitted a buffer, and how many they are.
-pub enum Gathered {
-    All(usize),
-    TooMany,
-}
-
 // The words of a list whose places are not redundant, in their order, written from the front of a buffer that is at least as long.
 fn keep_irredundant(words: &[u32], kept: &mut [u32]) -> usize
     requires { ⌜ Listable (now words) × (length (now words) ≤ length (now kept)) ⌝ }

@@ -9,7 +9,7 @@ use lib.ListN.{length}
 use Rattle.foundation.proofs.laws.Members.{each-member, member-at}
 use Rattle.redundancy.specs.Cover.{Listable}
 use Rattle.redundancy.specs.Reduction.{redundant, reducedWords}
-use Rattle.reduction.proofs.laws.KeptWords.{KeptSo, none-kept, drop-next, keep-next, all-kept}
+use Rattle.exact_cover.proofs.laws.KeptWords.{KeptSo, none-kept, drop-next, keep-next, all-kept}
 use Rattle.reduction.proofs.keep_irredundant.Statement.{statement}
 use Rattle.reduction.proofs.keep_irredundant.Tie as tie
 

@@ -1,4 +1,4 @@
--- `reduction::union::gather` meets its contract. The loop's invariant: the words before the index that can be parts stand in front of the buffer. The
+-- `exact_cover::parts::gather` meets its contract. The loop's invariant: the words before the index that can be parts stand in front of the buffer. The
 -- measure is what is left of the words.
 -- Assumes nothing.
 use Prim.Native.Nat.{_-_}
@@ -8,10 +8,10 @@ use borrow.Author.Needs.{needs}
 use borrow.Author.Tests.{not-true, not-false}
 use lib.ListN.{length}
 use Rattle.redundancy.specs.Cover.{usable, partsOf}
-use Rattle.reduction.specs.Gathering.{GatheredAs}
-use Rattle.reduction.proofs.laws.KeptWords.{KeptSo, none-kept, drop-next, keep-next, no-room, all-kept}
-use Rattle.reduction.proofs.union.gather.Statement.{statement}
-use Rattle.reduction.proofs.union.gather.Tie as tie
+use Rattle.exact_cover.specs.Gathering.{GatheredAs}
+use Rattle.exact_cover.proofs.laws.KeptWords.{KeptSo, none-kept, drop-next, keep-next, no-room, all-kept}
+use Rattle.exact_cover.proofs.parts.gather.Statement.{statement}
+use Rattle.exact_cover.proofs.parts.gather.Tie as tie
 
 abbrev Inv-loop : tie.InvT-loop
 Inv-loop words whole left parts₀ count₀ at₀ parts count at = KeptSo (usable whole left) words parts₀ parts count at

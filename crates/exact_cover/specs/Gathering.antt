@@ -7,8 +7,8 @@ use mathlib.Core.List.{List}
 use lib.ListN.{length}
 use Rattle.foundation.specs.Buffers.{overwrite}
 use Rattle.redundancy.specs.Cover.{partsOf}
-use Rattle.reduction.specs.declared.Gathered.{Gathered}
-use Rattle.reduction.specs.declared.Gathered.the-variants.{All, TooMany}
+use Rattle.exact_cover.specs.declared.Gathered.{Gathered}
+use Rattle.exact_cover.specs.declared.Gathered.the-variants.{All, TooMany}
 
 -- what the buffer held before and after, and the answer
 unfoldable pub GatheredAs : List ℕ → ℕ → ℕ → List ℕ → List ℕ → Gathered → Type 0
