@@ -11,6 +11,7 @@ use compare::model::{self, Place, Settings, PLACE_BYTES};
 use compare::table::{Speed, Table};
 use compare::timing::{measure, Effort, Times};
 use std::hint::black_box;
+use std::ops::Range;
 use std::time::Duration;
 
 /// A log with its sizes.
@@ -171,6 +172,51 @@ fn reducing(effort: Effort, lengths: &[usize]) {
     table.end();
 }
 
+/// Lists in which no word, or hardly any, is a union: short sets, one output, and two blocks of
+/// single pairs that nearly make up the place of all activities.
+fn reducing_others(effort: Effort) {
+    let title = "Reducing lists without unions";
+    let mut table = Table::new(title, Speed::Nanoseconds("word"));
+    for (name, words) in [
+        ("at most 3 inputs and 3 outputs of 12", short_sets(4096)),
+        ("input sets with one output", one_output(4096)),
+        ("two blocks of single pairs", two_blocks()),
+    ] {
+        let (times, _) = time_reduction(effort, &words);
+        table.row(
+            &format!("{} words, {name}", words.len()),
+            words.len(),
+            times,
+        );
+    }
+}
+
+fn short_sets(length: usize) -> Vec<u32> {
+    let mut random = Random::new(5);
+    let mut set = || (0..random.between(1, 3)).fold(0, |set, _| set | 1 << random.below(12));
+    (0..length).map(|_| set() | set() << 16).collect()
+}
+
+fn one_output(length: usize) -> Vec<u32> {
+    (1..=length as u32).map(|inputs| inputs | 1 << 16).collect()
+}
+
+/// 8 inputs with 9 outputs, 8 with 7, and the place of all: the pairs of neither block can cover
+/// its activities, which shows only after many orders were tried.
+fn two_blocks() -> Vec<u32> {
+    let pairs = |inputs: Range<u32>, outputs: Range<u32>| {
+        inputs.flat_map(move |input| {
+            outputs
+                .clone()
+                .map(move |output| 1 << input | 1 << (16 + output))
+        })
+    };
+    pairs(0..8, 0..9)
+        .chain(pairs(8..16, 9..16))
+        .chain([u32::MAX])
+        .collect()
+}
+
 /// All places of so many activities, in order.
 fn all_places(activities: u8) -> Vec<u32> {
     let settings = Settings {
@@ -188,7 +234,13 @@ fn all_places(activities: u8) -> Vec<u32> {
 
 fn reduce_row(table: &mut Table, effort: Effort, words: &[u32]) {
     let length = words.len();
-    let mut kept = vec![0; length];
+    let (times, count) = time_reduction(effort, words);
+    table.row(&format!("{length} words, {count} kept"), length, times);
+}
+
+/// The times, and how many words were kept.
+fn time_reduction(effort: Effort, words: &[u32]) -> (Times, usize) {
+    let mut kept = vec![0; words.len()];
     let mut its_kept = kept.clone();
     let times = measure(
         effort,
@@ -196,7 +248,7 @@ fn reduce_row(table: &mut Table, effort: Effort, words: &[u32]) {
         || model::reduce(black_box(words), &mut kept),
     );
     let count = model::reduce(words, &mut kept).expect("a valid list");
-    table.row(&format!("{length} words, {count} kept"), length, times);
+    (times, count)
 }
 
 fn writing(effort: Effort, lengths: &[usize]) {
@@ -248,5 +300,6 @@ fn main() {
     judging(effort, &samples);
     searching(effort, quick);
     reducing(effort, lengths);
+    reducing_others(effort);
     writing(effort, lengths);
 }
