@@ -5,6 +5,7 @@ mod buffers;
 mod calls;
 pub mod lists;
 pub mod logs;
+mod outcomes;
 pub mod places;
 mod process;
 pub mod programs;
@@ -12,4 +13,5 @@ pub mod searches;
 mod tally;
 
 pub use calls::{Comparison, Sizes};
+pub use outcomes::required;
 pub use tally::Tally;

@@ -3,7 +3,7 @@
 //!
 //!     differential [--seed N] [--rounds N] [--long] [PROGRAM]
 
-use compare::comparison::{lists, logs, places, programs, searches, Comparison};
+use compare::comparison::{lists, logs, places, programs, required, searches, Comparison};
 use compare::generate::Random;
 use std::path::PathBuf;
 use std::process::ExitCode;
@@ -75,9 +75,14 @@ fn main() -> ExitCode {
     println!("comparisons:");
     tally.print();
     println!("{:>8.1}  seconds", start.elapsed().as_secs_f64());
-    if tally.comparisons() < LEAST_COMPARISONS {
+    let enough = tally.comparisons() >= LEAST_COMPARISONS;
+    if !enough {
         println!("fewer than {LEAST_COMPARISONS} comparisons");
     }
-    let passed = tally.differences() == 0 && tally.comparisons() >= LEAST_COMPARISONS;
+    let unreached = tally.unreached(required(options.program.is_some()));
+    for (call, outcome) in &unreached {
+        println!("not reached: {call}, {outcome}");
+    }
+    let passed = tally.differences() == 0 && enough && unreached.is_empty();
     ExitCode::from(u8::from(!passed))
 }

@@ -53,9 +53,7 @@ pub fn compare_program(
     for piece in [1, 2, 3, 7, 10, 11, 12, 19] {
         comparison.program("program: short pieces", program, WORKED, piece);
     }
-    if rounds > 1 {
-        comparison.program("program: a whole budget", program, WHOLE_BUDGET, MOST_INPUT);
-    }
+    comparison.program("program: a whole budget", program, WHOLE_BUDGET, MOST_INPUT);
     for _ in 0..rounds {
         for index in 0..200 {
             let input = random_input(random);

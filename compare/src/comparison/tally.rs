@@ -1,5 +1,6 @@
 //! Counts of comparisons and differences, by kind, and of the outcomes that were reached.
 
+use super::outcomes::Outcome;
 use std::collections::BTreeMap;
 
 /// How many differences are shown with their input.
@@ -16,7 +17,7 @@ struct Kind {
 pub struct Tally {
     kinds: Vec<Kind>,
     shown: usize,
-    outcomes: BTreeMap<(&'static str, String), u64>,
+    outcomes: BTreeMap<Outcome, u64>,
 }
 
 impl Tally {
@@ -59,6 +60,12 @@ impl Tally {
 
     pub fn differences(&self) -> u64 {
         self.kinds.iter().map(|kind| kind.differences).sum()
+    }
+
+    /// Those of the outcomes that no call was expected to have.
+    pub fn unreached(&self, outcomes: Vec<Outcome>) -> Vec<Outcome> {
+        let reached = |outcome: &Outcome| self.outcomes.contains_key(outcome);
+        outcomes.into_iter().filter(|it| !reached(it)).collect()
     }
 
     /// Prints a line for each outcome that a call was expected to have.
