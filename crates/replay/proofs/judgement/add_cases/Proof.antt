@@ -30,8 +30,8 @@ returns c =
       second .cases-where2 .ensures .0,
       third .cases-where3 .ensures .0,
       fourth .cases-where4 .ensures .0,
-      below-zero (t .least) (search needs),
-      above-zero (t .balance) (search needs),
+      ← below-zero (t .least) (search needs),
+      ← above-zero (t .balance) (search needs),
     )
 
 pub add-cases-spec : {M : Type 1} → statement M
