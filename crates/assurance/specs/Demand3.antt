@@ -14,11 +14,11 @@ use Rattle.places.specs.declared.Place.{Place}
 use Rattle.places.specs.Places.{word, placeOf}
 use Rattle.places.specs.Order.{PlaceBefore}
 use Rattle.places.specs.Candidates.{candidate, candidates}
-use Rattle.candidate_search.specs.declared.Run.{Run}
-use Rattle.candidate_search.specs.TwoRuns.{fits, fittingCandidates}
-use Rattle.redundancy.specs.declared.Reduced.the-variants.{Kept}
-use Rattle.redundancy.specs.Unions.{UnionOf}
-use Rattle.redundancy.specs.Reduction.{reducedWords}
+use Rattle.discovery_spec.specs.declared.Run.{Run}
+use Rattle.discovery_spec.specs.TwoRuns.{fits, fittingCandidates}
+use Rattle.reduction_spec.specs.declared.Reduced.the-variants.{Kept}
+use Rattle.reduction_spec.specs.Unions.{UnionOf}
+use Rattle.reduction_spec.specs.Reduction.{reducedWords}
 use Rattle.listing.specs.declared.Listing.{Listing}
 use Rattle.listing.specs.declared.Listing.the-variants.{Refused, Incomplete, Complete}
 use Rattle.listing.specs.Listing.{Resources, foundIn, foundLeft, keptLeft, listing}

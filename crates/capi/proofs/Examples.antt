@@ -7,17 +7,17 @@ use mathlib.Core.Option.{Option}
 use lib.IntN.{pos, negsuc}
 use Rattle.foundation.specs.Text.{bytes}
 use Rattle.limits.specs.declared.Refusal.{Refusal}
-use Rattle.balances.specs.declared.Replayed.{Replayed}
-use Rattle.balances.specs.declared.Judged.{Judged}
-use Rattle.candidate_search.specs.declared.Discovered.{Discovered}
-use Rattle.redundancy.specs.declared.Reduced.{Reduced}
+use Rattle.replay_spec.specs.declared.Replayed.{Replayed}
+use Rattle.replay_spec.specs.declared.Judged.{Judged}
+use Rattle.discovery_spec.specs.declared.Discovered.{Discovered}
+use Rattle.reduction_spec.specs.declared.Reduced.{Reduced}
 use Rattle.writer.specs.declared.Written.{Written}
 use Rattle.places.specs.Places.{place, word}
-use Rattle.log_format.specs.Checking.{checked}
-use Rattle.balances.specs.Answers.{replayed, judged}
-use Rattle.candidate_search.specs.Search.{holding}
-use Rattle.candidate_search.specs.Discovery.{discovered}
-use Rattle.redundancy.specs.Reduction.{reduced}
+use Rattle.event_log_spec.specs.Checking.{checked}
+use Rattle.replay_spec.specs.Answers.{replayed, judged}
+use Rattle.discovery_spec.specs.Search.{holding}
+use Rattle.discovery_spec.specs.Discovery.{discovered}
+use Rattle.reduction_spec.specs.Reduction.{reduced}
 use Rattle.writer.specs.Writing.{written}
 use Rattle.reporter.specs.Reporting.{reported}
 use Rattle.capi.specs.Settings.{settingsOf}

@@ -5,16 +5,16 @@ use Prim.Native.Nat.{ℕ}
 use mathlib.Core.Option.{Option, none, some}
 use Rattle.limits.specs.declared.Refusal.{Refusal}
 use Rattle.limits.specs.Refusals.{number, value}
-use Rattle.log_format.specs.declared.Checked.{Checked}
-use Rattle.log_format.specs.declared.Checked.the-variants as CheckedAs
-use Rattle.balances.specs.declared.Replayed.{Replayed}
-use Rattle.balances.specs.declared.Replayed.the-variants as ReplayedAs
-use Rattle.balances.specs.declared.Judged.{Judged}
-use Rattle.balances.specs.declared.Judged.the-variants as JudgedAs
-use Rattle.candidate_search.specs.declared.Discovered.{Discovered}
-use Rattle.candidate_search.specs.declared.Discovered.the-variants as DiscoveredAs
-use Rattle.redundancy.specs.declared.Reduced.{Reduced}
-use Rattle.redundancy.specs.declared.Reduced.the-variants as ReducedAs
+use Rattle.event_log_spec.specs.declared.Checked.{Checked}
+use Rattle.event_log_spec.specs.declared.Checked.the-variants as CheckedAs
+use Rattle.replay_spec.specs.declared.Replayed.{Replayed}
+use Rattle.replay_spec.specs.declared.Replayed.the-variants as ReplayedAs
+use Rattle.replay_spec.specs.declared.Judged.{Judged}
+use Rattle.replay_spec.specs.declared.Judged.the-variants as JudgedAs
+use Rattle.discovery_spec.specs.declared.Discovered.{Discovered}
+use Rattle.discovery_spec.specs.declared.Discovered.the-variants as DiscoveredAs
+use Rattle.reduction_spec.specs.declared.Reduced.{Reduced}
+use Rattle.reduction_spec.specs.declared.Reduced.the-variants as ReducedAs
 use Rattle.writer.specs.declared.Written.{Written}
 use Rattle.writer.specs.declared.Written.the-variants as WrittenAs
 

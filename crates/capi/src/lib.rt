@@ -6,10 +6,10 @@ ghost use lib.ListN.{length};
 ghost use Rattle.limits.specs.Refusals.{number};
 ghost use Rattle.limits.specs.Refusals.{value as valueOf};
 ghost use Rattle.places.specs.Places.{place};
-ghost use Rattle.log_format.specs.Checking.{checked};
-ghost use Rattle.balances.specs.Answers.{replayed, judged};
-ghost use Rattle.candidate_search.specs.Discovery.{discovered, capacityOf, foundAfter, rejectedAfter};
-ghost use Rattle.redundancy.specs.Reduction.{reduced, reducedAfter};
+ghost use Rattle.event_log_spec.specs.Checking.{checked};
+ghost use Rattle.replay_spec.specs.Answers.{replayed, judged};
+ghost use Rattle.discovery_spec.specs.Discovery.{discovered, capacityOf, foundAfter, rejectedAfter};
+ghost use Rattle.reduction_spec.specs.Reduction.{reduced, reducedAfter};
 ghost use Rattle.writer.specs.Writing.{written, writtenAfter};
 ghost use Rattle.reporter.specs.Reporting.{reported, outputAfter};
 ghost use Rattle.capi.specs.Settings.{settingsOf};
@@ -17,22 +17,22 @@ ghost use Rattle.capi.specs.Refused.{numberGiven, valueGiven, refusalInC
 ghost use Rattle.capi.specs.Refused.{refusalInDiscovered, refusalInReduced, refusalInWritten};
 ghost use Rattle.capi.specs.Results.{sizesAfter, leastAfter, lastAfter, countsAfter, verdictAfter};
 ghost use Rattle.capi.specs.Results.{runAfter, keptCountAfter, byteCountAfter};
-use balances::Judged;
-use balances::Replayed;
-use candidate_search::Discovered;
 use discovery::discover;
 use discovery::mark_of;
+use discovery_spec::Discovered;
 use event_log::check_log;
+use event_log_spec::Checked;
 use limits::Refusal;
 use limits::Settings;
 use limits::number_of;
 use limits::value_of;
-use log_format::Checked;
 use places::Place;
 use reduction::reduce;
-use redundancy::Reduced;
+use reduction_spec::Reduced;
 use replay::judge_place;
 use replay::replay_first_trace;
+use replay_spec::Judged;
+use replay_spec::Replayed;
 use reporter::report_places;
 use writer::Written;
 use writer::write_places;
@@ -160,8 +160,8 @@ pub extern "C" fn placelist_judge(
 #[no_mangle]
 pub extern "C" fn placelist_search(
     activities: u8,
-    mostinputs: u8,
-    mostoutputs: u8,
+    most_inputs: u8,
+    most_outputs: u8,
     threshold: u16,
     text: &[u8],
     budget: u32,
@@ -171,25 +171,25 @@ pub extern "C" fn placelist_search(
     run: &mut [u64; 5],
 ) -> u8
     ensures number { λ r. ⌜ r
-        ≡ numberGiven (refusalInDiscovered (discovered (settingsOf activities mostinputs mostoutputs threshold) (now (text .entry))
+        ≡ numberGiven (refusalInDiscovered (discovered (settingsOf activities «most_inputs» «most_outputs» threshold) (now (text .entry))
         (capacityOf (now (rejected .entry)) (now (found .entry)) budget))) ⌝ }
     ensures value { λ _. ⌜ now (value .exit)
-        ≡ valueGiven (refusalInDiscovered (discovered (settingsOf activities mostinputs mostoutputs threshold) (now (text .entry))
+        ≡ valueGiven (refusalInDiscovered (discovered (settingsOf activities «most_inputs» «most_outputs» threshold) (now (text .entry))
         (capacityOf (now (rejected .entry)) (now (found .entry)) budget))) ⌝ }
     ensures run { λ _. ⌜ now (run .exit)
-        ≡ runAfter (discovered (settingsOf activities mostinputs mostoutputs threshold) (now (text .entry))
+        ≡ runAfter (discovered (settingsOf activities «most_inputs» «most_outputs» threshold) (now (text .entry))
         (capacityOf (now (rejected .entry)) (now (found .entry)) budget)) (now (run .entry)) ⌝ }
     ensures rejected { λ _. ⌜ now (rejected .exit)
-        ≡ rejectedAfter (settingsOf activities mostinputs mostoutputs threshold) (now (text .entry))
+        ≡ rejectedAfter (settingsOf activities «most_inputs» «most_outputs» threshold) (now (text .entry))
         (now (rejected .entry)) (now (found .entry)) budget ⌝ }
     ensures found { λ _. ⌜ now (found .exit)
-        ≡ foundAfter (settingsOf activities mostinputs mostoutputs threshold) (now (text .entry))
+        ≡ foundAfter (settingsOf activities «most_inputs» «most_outputs» threshold) (now (text .entry))
         (now (rejected .entry)) (now (found .entry)) budget ⌝ }
 {
     let settings = Settings {
         activities,
-        inputs: mostinputs,
-        outputs: mostoutputs,
+        inputs: most_inputs,
+        outputs: most_outputs,
         threshold,
     };
     match discover(settings, text, budget, rejected, found) {

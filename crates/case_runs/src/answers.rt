@@ -1,17 +1,17 @@
 // An answer compared with the expected one, under the name of its case.
-use balances::CaseCounts;
-use balances::Judged;
-use balances::Replayed;
-use balances::Verdict;
 use case_tables::report;
 use event_log::check_log;
+use event_log_spec::Checked;
 use limits::Refusal;
 use limits::number_of;
 use limits::value_of;
-use log_format::Checked;
 use places::Place;
 use replay::judge_place;
 use replay::replay_first_trace;
+use replay_spec::CaseCounts;
+use replay_spec::Judged;
+use replay_spec::Replayed;
+use replay_spec::Verdict;
 
 // Whether a refusal has this number and value.
 pub fn is_refusal(refusal: Refusal, number: u8, value: usize) -> bool {

@@ -1,8 +1,8 @@
 // Judging a place over a log: M7, the four case counts and each verdict, thresholds at an exact share, and the refusals.
 use crate::answers::judge_refuses;
 use crate::answers::judges;
-use balances::CaseCounts;
-use balances::Verdict;
+use replay_spec::CaseCounts;
+use replay_spec::Verdict;
 
 // The four case counts in their order: fitting, underfed only, overfed only, both.
 fn counts(fitting: u64, underfed: u64, overfed: u64, both: u64) -> CaseCounts {

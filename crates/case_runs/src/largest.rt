@@ -4,8 +4,8 @@ use crate::answers::judges;
 use crate::answers::refuses;
 use crate::texts::put;
 use crate::texts::repeat;
-use balances::CaseCounts;
-use balances::Verdict;
+use replay_spec::CaseCounts;
+use replay_spec::Verdict;
 
 // The bytes of 4,096 lines of 9 bytes each.
 const FITS: usize = 36864;

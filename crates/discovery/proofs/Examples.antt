@@ -4,7 +4,7 @@ use mathlib.Core.Path.{_≡_, refl}
 use mathlib.Core.Bool.{true, false}
 use mathlib.Core.List.{[], _∷_}
 use Rattle.places.specs.Places.{place}
-use Rattle.candidate_search.specs.Search.{start, going, withPruned}
+use Rattle.discovery_spec.specs.Search.{start, going, withPruned}
 use Rattle.discovery.specs.declared.Ruling.the-variants.{Unruled, AsUnderfed, AsOverfed}
 use Rattle.discovery.specs.Rulings.{rulingOf}
 use Rattle.discovery.specs.Standing.{stateIn, prunes}

@@ -2,7 +2,7 @@
 -- Assumes nothing.
 use Rattle.discovery.specs.Rulings.{rulingOf}
 use Rattle.discovery.specs.Standing.{stateIn, prunes}
-use Rattle.candidate_search.proofs.Opened.{opened as opened-search}
+use Rattle.discovery_spec.proofs.Opened.{opened as opened-search}
 
 unfoldable pub opened : Unit {0}
 unfolding rulingOf stateIn prunes opened-search

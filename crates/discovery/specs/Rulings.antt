@@ -5,7 +5,7 @@ use mathlib.Core.Bool.{cond}
 use mathlib.Core.List.{List}
 use Rattle.foundation.specs.Lists.{any}
 use Rattle.places.specs.declared.Place.{Place}
-use Rattle.candidate_search.specs.Rejected.{rulesUnderfed, ruledOverfed}
+use Rattle.discovery_spec.specs.Rejected.{rulesUnderfed, ruledOverfed}
 use Rattle.discovery.specs.declared.Ruling.{Ruling}
 use Rattle.discovery.specs.declared.Ruling.the-variants.{Unruled, AsUnderfed, AsOverfed}
 

@@ -12,13 +12,13 @@ use Rattle.foundation.specs.Buffers.{overwrite}
 use Rattle.limits.specs.declared.Settings.{Settings}
 use Rattle.limits.specs.Settings.{mostActivities}
 use Rattle.places.specs.declared.Place.{Place}
-use Rattle.log_format.specs.Frames.{WrittenLog}
-use Rattle.log_format.specs.Lines.{framesOf}
+use Rattle.event_log_spec.specs.Frames.{WrittenLog}
+use Rattle.event_log_spec.specs.Lines.{framesOf}
 use Rattle.event_log.specs.Stepping.{frameIndex}
-use Rattle.balances.specs.Judgement.{verdict}
-use Rattle.candidate_search.specs.declared.Run.{Run}
-use Rattle.candidate_search.specs.Search.{State, Progress, going, step, stateOf}
-use Rattle.candidate_search.specs.Discovery.{summary, capacityOf}
+use Rattle.replay_spec.specs.Judgement.{verdict}
+use Rattle.discovery_spec.specs.declared.Run.{Run}
+use Rattle.discovery_spec.specs.Search.{State, Progress, going, step, stateOf}
+use Rattle.discovery_spec.specs.Discovery.{summary, capacityOf}
 
 -- settings and a log that the checks of the call have passed, as far as the search needs it, and the index of the log's frames
 pub record Searchable (s : Settings) (text index : List ℕ) : Type 0 where

@@ -2,7 +2,7 @@
 ghost use mathlib.Core.Path.{_≡_};
 ghost use mathlib.Core.Bool.{_||_};
 ghost use lib.Dec.{eqb};
-ghost use Rattle.candidate_search.specs.Rejected.{markIn, placeIn, rulesUnderfed, rulesOverfed};
+ghost use Rattle.discovery_spec.specs.Rejected.{markIn, placeIn, rulesUnderfed, rulesOverfed};
 ghost use Rattle.discovery.specs.Rulings.{rulingOf};
 use crate::Ruling;
 use candidate_order::is_lighter;

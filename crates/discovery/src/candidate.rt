@@ -1,25 +1,25 @@
 // One candidate in its turn: document 01, "The walk", the list of what happens to a candidate.
 ghost use mathlib.Core.Path.{_≡_};
-ghost use Prim.Native.Nat.{ℕ, suc, _+_, _≤_, _<_, _^_};
+ghost use Prim.Native.Nat.{ℕ, _+_, _≤_, _<_, _^_};
 ghost use Rattle.limits.specs.Settings.{mostActivities};
-ghost use Rattle.log_format.specs.Frames.{WrittenLog};
-ghost use Rattle.log_format.specs.Lines.{framesOf};
+ghost use Rattle.event_log_spec.specs.Frames.{WrittenLog};
+ghost use Rattle.event_log_spec.specs.Lines.{framesOf};
 ghost use Rattle.event_log.specs.Stepping.{frameIndex};
-ghost use Rattle.balances.specs.Judgement.{verdict};
+ghost use Rattle.replay_spec.specs.Judgement.{verdict};
 ghost use Rattle.discovery.specs.declared.Ruling.the-variants.{Unruled};
 ghost use Rattle.discovery.specs.Rulings.{rulingOf};
-ghost use Rattle.candidate_search.specs.Search.{conclude, visit};
-ghost use Rattle.candidate_search.specs.Discovery.{capacityOf};
+ghost use Rattle.discovery_spec.specs.Search.{conclude, visit};
+ghost use Rattle.discovery_spec.specs.Discovery.{capacityOf};
 ghost use Rattle.discovery.specs.Standing.{stateIn, Stands, Leaves, prunes};
 use crate::Ruling;
 use crate::Turn;
 use crate::cache::ruling_by;
 use crate::mark_of;
-use balances::Verdict;
-use candidate_search::Run;
+use discovery_spec::Run;
 use places::Place;
 use places::word_of;
 use replay::verdict_over;
+use replay_spec::Verdict;
 
 // What follows the replay of a candidate that no word ruled: it is found, or its word goes where there is room among the rejected. Only a word
 // that was kept can prune, and then by its own mark.

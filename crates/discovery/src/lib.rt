@@ -1,19 +1,19 @@
 // The search over candidates for the places that a log fits: document 01, "The walk".
 ghost use mathlib.Core.Path.{_≡_};
-ghost use Rattle.candidate_search.specs.Rejected.{mark};
-ghost use Rattle.candidate_search.specs.Discovery.{discovered, capacityOf, foundAfter, rejectedAfter};
+ghost use Rattle.discovery_spec.specs.Rejected.{mark};
+ghost use Rattle.discovery_spec.specs.Discovery.{discovered, capacityOf, foundAfter, rejectedAfter};
 use crate::search::search_from;
-use balances::Verdict;
-use candidate_search::Discovered;
-use candidate_search::Run;
+use discovery_spec::Discovered;
+use discovery_spec::Run;
 use event_log::check_log;
 use event_log::frame::index_frames;
+use event_log_spec::Checked;
 use limits::Refusal;
 use limits::Settings;
 use limits::settings_in_range;
-use log_format::Checked;
 use log_lines::MOST_FRAMES;
 use places::Place;
+use replay_spec::Verdict;
 
 mod cache; // cache.rt: which way the words of rejected places rule a candidate
 mod candidate; // candidate.rt: one candidate in its turn

@@ -11,7 +11,7 @@ use crate::Position;
 use crate::candidate::visit_candidate;
 use candidate_order::set::set_after;
 use candidate_order::set::set_past;
-use candidate_search::Run;
+use discovery_spec::Run;
 use limits::Settings;
 use places::Place;
 

@@ -4,7 +4,7 @@ use Prim.Native.Nat.{_+_, _*_}
 use mathlib.Core.Path.{_≡_, refl}
 use mathlib.Core.List.{[], _∷_}
 use Rattle.foundation.specs.Text.{bytes}
-use Rattle.log_format.specs.Lines.{framesOf}
+use Rattle.event_log_spec.specs.Lines.{framesOf}
 use Rattle.event_log.specs.Stepping.{casesAt, traceEnd, frameIndex}
 use Rattle.event_log.proofs.Opened.{opened}
 

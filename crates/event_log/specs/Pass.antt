@@ -4,11 +4,11 @@ use Prim.Native.Nat.{ℕ}
 use mathlib.Core.List.{List}
 use lib.ListN.{length}
 use Rattle.limits.specs.Refusals.{answer}
-use Rattle.log_format.specs.declared.Checked.{Checked}
-use Rattle.log_format.specs.declared.Checked.the-variants.{Accepted, Refused}
-use Rattle.log_format.specs.Frames.{totalCases}
-use Rattle.log_format.specs.Lines.{framesOf}
-use Rattle.log_format.specs.Checking.{textFault}
+use Rattle.event_log_spec.specs.declared.Checked.{Checked}
+use Rattle.event_log_spec.specs.declared.Checked.the-variants.{Accepted, Refused}
+use Rattle.event_log_spec.specs.Frames.{totalCases}
+use Rattle.event_log_spec.specs.Lines.{framesOf}
+use Rattle.event_log_spec.specs.Checking.{textFault}
 
 -- checking the lines of a text
 unfoldable pub linesChecked : ℕ → List ℕ → Checked

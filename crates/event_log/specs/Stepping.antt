@@ -7,7 +7,7 @@ use mathlib.Core.List.{List, [], _∷_}
 use lib.Dec.{eqb, leb}
 use lib.ListN.{length, take, drop}
 use Rattle.hex_digits.specs.Digits.{readHex, lineFeed}
-use Rattle.log_format.specs.Frames.{Frame, countDigits}
+use Rattle.event_log_spec.specs.Frames.{Frame, countDigits}
 
 -- the case count that begins at the index: what its four digits write, 0 where fewer bytes are left
 unfoldable pub casesAt : List ℕ → ℕ → ℕ

@@ -1,10 +1,10 @@
 // Case logs: document 01, "Settings and the log".
 ghost use mathlib.Core.Path.{_≡_};
-ghost use Rattle.log_format.specs.Checking.{checked};
+ghost use Rattle.event_log_spec.specs.Checking.{checked};
 ghost use Rattle.event_log.specs.Pass.{linesChecked};
+use event_log_spec::Checked;
 use limits::Refusal;
 use limits::bound_in_range;
-use log_format::Checked;
 use log_lines::LineChecked;
 use log_lines::line::check_line;
 

@@ -6,7 +6,7 @@ use mathlib.Core.Path.{_≡_}
 use mathlib.Core.List.{List}
 use lib.ListN.{length, getD}
 use Rattle.places.specs.Sets.{has}
-use Rattle.redundancy.specs.Cover.{Cover, choices}
+use Rattle.reduction_spec.specs.Cover.{Cover, choices}
 use Rattle.exact_cover.specs.declared.Tally.{Tally}
 use Rattle.exact_cover.specs.declared.Choice.{Choice}
 use Rattle.exact_cover.specs.declared.Choice.the-variants.{Activity, Uncoverable}

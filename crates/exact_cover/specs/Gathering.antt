@@ -6,7 +6,7 @@ use mathlib.Core.Path.{_≡_}
 use mathlib.Core.List.{List}
 use lib.ListN.{length}
 use Rattle.foundation.specs.Buffers.{overwrite}
-use Rattle.redundancy.specs.Cover.{partsOf}
+use Rattle.reduction_spec.specs.Cover.{partsOf}
 use Rattle.exact_cover.specs.declared.Gathered.{Gathered}
 use Rattle.exact_cover.specs.declared.Gathered.the-variants.{All, TooMany}
 

@@ -2,7 +2,7 @@
 ghost use mathlib.Core.Path.{_≡_};
 ghost use Prim.Native.Nat.{_≤_, _<_};
 ghost use Rattle.places.specs.Sets.{has};
-ghost use Rattle.redundancy.specs.Cover.{inputCount, outputCount, balanced};
+ghost use Rattle.reduction_spec.specs.Cover.{inputCount, outputCount, balanced};
 ghost use Rattle.exact_cover.specs.Choosing.{Tallied, Growable, Grown, Counts, Fewest, Chosen};
 use crate::Choice;
 use crate::Tally;

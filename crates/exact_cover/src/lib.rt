@@ -4,7 +4,7 @@ ghost use mathlib.Core.Path.{_≡_};
 ghost use mathlib.Core.Logic.{_↔_};
 ghost use mathlib.Core.Bool.{true};
 ghost use Prim.Native.Nat.{_<_};
-ghost use Rattle.redundancy.specs.Cover.{Listable, usable, Cover};
+ghost use Rattle.reduction_spec.specs.Cover.{Listable, usable, Cover};
 use crate::activity::choose;
 use crate::parts::gather;
 

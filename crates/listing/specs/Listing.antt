@@ -8,11 +8,11 @@ use mathlib.Core.List.{List}
 use lib.Dec.{eqb}
 use lib.ListN.{length, take}
 use Rattle.limits.specs.declared.Settings.{Settings}
-use Rattle.candidate_search.specs.declared.Discovered.{Discovered}
-use Rattle.candidate_search.specs.declared.Discovered.the-variants as Answered
-use Rattle.candidate_search.specs.declared.Run.{Run}
-use Rattle.candidate_search.specs.Discovery.{discovered, capacityOf, foundAfter, rejectedAfter}
-use Rattle.redundancy.specs.Reduction.{reduced, reducedAfter}
+use Rattle.discovery_spec.specs.declared.Discovered.{Discovered}
+use Rattle.discovery_spec.specs.declared.Discovered.the-variants as Answered
+use Rattle.discovery_spec.specs.declared.Run.{Run}
+use Rattle.discovery_spec.specs.Discovery.{discovered, capacityOf, foundAfter, rejectedAfter}
+use Rattle.reduction_spec.specs.Reduction.{reduced, reducedAfter}
 use Rattle.listing.specs.declared.Listing.{Listing}
 use Rattle.listing.specs.declared.Listing.the-variants.{Refused, Incomplete, Complete}
 

@@ -1,12 +1,12 @@
 // A run and, where it completes, the reduction of what it found: document 01, the words of demand 3.
 ghost use Rattle.listing.specs.Listing.{resourcesOf, GoesAsWritten};
-use candidate_search::Discovered;
-use candidate_search::Run;
 use discovery::discover;
+use discovery_spec::Discovered;
+use discovery_spec::Run;
 use limits::Refusal;
 use limits::Settings;
 use reduction::reduce;
-use redundancy::Reduced;
+use reduction_spec::Reduced;
 
 // What a run and the reduction of its list answered.
 pub enum Listing {

@@ -6,7 +6,7 @@ use mathlib.Core.List.{[], _∷_}
 use Rattle.foundation.specs.Text.{bytes}
 use Rattle.foundation.specs.Lists.{foldl}
 use Rattle.limits.specs.declared.Refusal.the-variants.{MisplacedEndpoint}
-use Rattle.log_format.specs.Lines.{firstLine}
+use Rattle.event_log_spec.specs.Lines.{firstLine}
 use Rattle.log_lines.specs.declared.Activities.the-variants.{Read}
 use Rattle.log_lines.specs.declared.Activities.the-variants as ActivitiesAs
 use Rattle.log_lines.specs.declared.Count.the-variants.{Cases}

@@ -17,9 +17,9 @@ use Rattle.log_lines.specs.declared.LineChecked.the-variants.{Sound, Fau
 use Rattle.log_lines.specs.declared.Phase.{Phase}
 use Rattle.log_lines.specs.declared.Phase.the-variants.{Before, Inside, Complete, Misplaced}
 use Rattle.hex_digits.specs.Digits.{isDigit, readHex}
-use Rattle.log_format.specs.Frames.{countDigits}
-use Rattle.log_format.specs.Lines.{Line, readPairs, frameOf}
-use Rattle.log_format.specs.Checking.{namesUnknown, endpointMisplaced, lineFault}
+use Rattle.event_log_spec.specs.Frames.{countDigits}
+use Rattle.event_log_spec.specs.Lines.{Line, readPairs, frameOf}
+use Rattle.event_log_spec.specs.Checking.{namesUnknown, endpointMisplaced, lineFault}
 
 -- the case count that a text begins with: four digits that are not 0000
 unfoldable pub countIn : List ℕ → Count

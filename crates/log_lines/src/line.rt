@@ -1,7 +1,7 @@
 // One line of a log, read once from its front: its count, then its activities up to the line feed.
 ghost use mathlib.Core.Path.{_≡_};
 ghost use lib.ListN.{drop};
-ghost use Rattle.log_format.specs.Lines.{firstLine};
+ghost use Rattle.event_log_spec.specs.Lines.{firstLine};
 ghost use Rattle.log_lines.specs.Reading.{countIn, nextPhase, incomplete, activitiesIn, lineChecked};
 use crate::Activities;
 use crate::COUNT_DIGITS;

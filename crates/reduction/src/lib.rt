@@ -3,12 +3,12 @@ ghost use mathlib.Core.Path.{_≡_};
 ghost use Prim.Native.Nat.{_≤_};
 ghost use lib.ListN.{length};
 ghost use Rattle.foundation.specs.Buffers.{overwrite};
-ghost use Rattle.redundancy.specs.Cover.{Listable};
-ghost use Rattle.redundancy.specs.Reduction.{reducedWords, reduced, reducedAfter};
+ghost use Rattle.reduction_spec.specs.Cover.{Listable};
+ghost use Rattle.reduction_spec.specs.Reduction.{reducedWords, reduced, reducedAfter};
 use crate::union::is_redundant;
 use limits::Refusal;
 use places::list::first_invalid;
-use redundancy::Reduced;
+use reduction_spec::Reduced;
 
 mod union; // union.rt: whether a place is a union of others
 

@@ -3,8 +3,8 @@ ghost use mathlib.Core.Path.{_≡_};
 ghost use mathlib.Core.Bool.{true};
 ghost use Rattle.limits.specs.Settings.{mostActivities};
 ghost use Rattle.places.specs.Places.{placeOf, placeUnder};
-ghost use Rattle.redundancy.specs.Cover.{Listable};
-ghost use Rattle.redundancy.specs.Reduction.{redundant};
+ghost use Rattle.reduction_spec.specs.Cover.{Listable};
+ghost use Rattle.reduction_spec.specs.Reduction.{redundant};
 use exact_cover::is_covered;
 
 // Whether a place of a list is the union of two or more others that do not overlap. A buffer is lent to the search for the words that can be parts.

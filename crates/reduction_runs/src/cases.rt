@@ -15,7 +15,7 @@ use case_tables::words::see_list;
 use limits::number_of;
 use limits::value_of;
 use reduction::reduce;
-use redundancy::Reduced;
+use reduction_spec::Reduced;
 
 // What a call answered: the number and value of a refusal, 0 and 0 where there is none; and how many words were kept, 0 after a refusal.
 struct Answer {

@@ -7,8 +7,8 @@ use lib.IntN.{ℤ, pos, negsuc}
 use Rattle.foundation.specs.Text.{bytes}
 use Rattle.limits.specs.declared.Refusal.the-variants.{InvalidSetting, InvalidPlace}
 use Rattle.places.specs.Places.{place}
-use Rattle.log_format.specs.declared.Checked.the-variants as CheckedAs
-use Rattle.balances.proofs.Examples.{counts}
+use Rattle.event_log_spec.specs.declared.Checked.the-variants as CheckedAs
+use Rattle.replay_spec.proofs.Examples.{counts}
 use Rattle.replay.specs.declared.Tokens.{Tokens}
 use Rattle.replay.specs.Replaying.{argumentsChecked, afterEvent, byDigit, digitSets, afterDigit, codesIn, withCases}
 use Rattle.replay.proofs.Opened.{opened}

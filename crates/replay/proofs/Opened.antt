@@ -2,7 +2,7 @@
 -- Assumes nothing.
 use Rattle.replay.specs.Replaying.{argumentsChecked, afterEvent, afterDigit, codesIn, withCases}
 use Rattle.event_log.proofs.Opened.{opened as opened-event-log}
-use Rattle.balances.proofs.Opened.{opened as opened-balances}
+use Rattle.replay_spec.proofs.Opened.{opened as opened-balances}
 
 unfoldable pub opened : Unit {0}
 unfolding argumentsChecked afterEvent afterDigit codesIn withCases opened-event-log opened-balances

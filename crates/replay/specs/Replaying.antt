@@ -13,16 +13,16 @@ use Rattle.limits.specs.Refusals.{given, answer}
 use Rattle.places.specs.declared.Place.{Place}
 use Rattle.places.specs.Sets.{has}
 use Rattle.places.specs.Places.{placeFault}
-use Rattle.log_format.specs.declared.Checked.{Checked}
-use Rattle.log_format.specs.declared.Checked.the-variants.{Accepted, Refused}
+use Rattle.event_log_spec.specs.declared.Checked.{Checked}
+use Rattle.event_log_spec.specs.declared.Checked.the-variants.{Accepted, Refused}
 use Rattle.hex_digits.specs.Digits.{digitValue}
-use Rattle.log_format.specs.Frames.{totalCases}
-use Rattle.log_format.specs.Lines.{framesOf}
-use Rattle.log_format.specs.Checking.{logRefusal}
-use Rattle.balances.specs.declared.CaseCounts.{CaseCounts}
+use Rattle.event_log_spec.specs.Frames.{totalCases}
+use Rattle.event_log_spec.specs.Lines.{framesOf}
+use Rattle.event_log_spec.specs.Checking.{logRefusal}
+use Rattle.replay_spec.specs.declared.CaseCounts.{CaseCounts}
 use Rattle.replay.specs.declared.DigitSets.{DigitSets}
 use Rattle.replay.specs.declared.Tokens.{Tokens}
-use Rattle.balances.specs.Balance.{smaller, leastBalance, lastBalance}
+use Rattle.replay_spec.specs.Balance.{smaller, leastBalance, lastBalance}
 
 -- checking the arguments of a call on a log and a place, whose settings are in their ranges or not
 unfoldable pub argumentsChecked : ℕ → Bool → List ℕ → Place → Checked

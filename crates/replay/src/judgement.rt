@@ -3,18 +3,18 @@ ghost use mathlib.Core.Path.{_≡_};
 ghost use mathlib.Core.Bool.{cond};
 ghost use Prim.Native.Nat.{_+_, _^_, _≤_, _<_};
 ghost use Rattle.limits.specs.Settings.{mostActivities};
-ghost use Rattle.log_format.specs.Frames.{WrittenLog};
-ghost use Rattle.log_format.specs.Lines.{framesOf};
+ghost use Rattle.event_log_spec.specs.Frames.{WrittenLog};
+ghost use Rattle.event_log_spec.specs.Lines.{framesOf};
 ghost use Rattle.event_log.specs.Stepping.{frameIndex};
-ghost use Rattle.balances.specs.Judgement.{caseCounts, casesOf, exceeds, verdictOf};
+ghost use Rattle.replay_spec.specs.Judgement.{caseCounts, casesOf, exceeds, verdictOf};
 ghost use Rattle.replay.specs.Replaying.{withCases};
 use crate::Tokens;
 use crate::trace::digit_sets;
 use crate::trace::replay_trace;
-use balances::CaseCounts;
-use balances::Verdict;
 use log_lines::COUNT_DIGITS;
 use places::Place;
+use replay_spec::CaseCounts;
+use replay_spec::Verdict;
 
 // Some cases where a test holds, and none where it does not, without a branch: how traces go cannot be foretold.
 fn cases_where(holds: bool, cases: u64) -> u64

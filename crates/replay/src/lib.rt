@@ -2,30 +2,30 @@
 ghost use mathlib.Core.Path.{_≡_};
 ghost use Prim.Native.Nat.{_≤_};
 ghost use Rattle.limits.specs.Settings.{mostActivities};
-ghost use Rattle.log_format.specs.Frames.{WrittenLog};
-ghost use Rattle.log_format.specs.Lines.{framesOf};
+ghost use Rattle.event_log_spec.specs.Frames.{WrittenLog};
+ghost use Rattle.event_log_spec.specs.Lines.{framesOf};
 ghost use Rattle.event_log.specs.Stepping.{frameIndex};
-ghost use Rattle.balances.specs.Answers.{replayed, judged};
-ghost use Rattle.balances.specs.Judgement.{verdict};
+ghost use Rattle.replay_spec.specs.Answers.{replayed, judged};
+ghost use Rattle.replay_spec.specs.Judgement.{verdict};
 ghost use Rattle.replay.specs.Replaying.{argumentsChecked};
 use crate::judgement::count_cases;
 use crate::judgement::verdict_on;
 use crate::trace::digit_sets;
 use crate::trace::replay_trace;
-use balances::Judged;
-use balances::Replayed;
-use balances::Verdict;
 use event_log::check_lines;
 use event_log::frame::index_frames;
 use event_log::frame::trace_end;
+use event_log_spec::Checked;
 use limits::Refusal;
 use limits::bound_and_threshold_in_range;
 use limits::bound_in_range;
-use log_format::Checked;
 use log_lines::COUNT_DIGITS;
 use log_lines::MOST_FRAMES;
 use places::Place;
 use places::place_under;
+use replay_spec::Judged;
+use replay_spec::Replayed;
+use replay_spec::Verdict;
 
 mod judgement; // judgement.rt: the case counts of a place and the verdict on it
 mod trace; // trace.rt: the tokens of one trace

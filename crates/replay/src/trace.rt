@@ -7,7 +7,7 @@ ghost use mathlib.Core.Bool.{true};
 ghost use Rattle.foundation.specs.Lists.{all};
 ghost use Rattle.hex_digits.specs.Digits.{isDigit};
 ghost use Rattle.places.specs.declared.Place.{Place};
-ghost use Rattle.log_format.specs.Frames.{mostEvents};
+ghost use Rattle.event_log_spec.specs.Frames.{mostEvents};
 ghost use Rattle.replay.specs.Replaying.{byDigit, digitSets, afterDigit, afterTrace, codesIn};
 use crate::DigitSets;
 use crate::Tokens;

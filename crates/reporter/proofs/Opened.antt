@@ -1,6 +1,6 @@
 -- One name for all definitions of this layer and of those below it: a proof by computation says `unfolding opened`.
 -- Assumes nothing.
-use Rattle.report.proofs.Opened.{opened as opened-report}
+use Rattle.reporter_spec.proofs.Opened.{opened as opened-report}
 use Rattle.reporter.specs.Reporting.{runLine, logReport, reportingRefusal, reported, outputAfter}
 
 unfoldable pub opened : Unit {0}

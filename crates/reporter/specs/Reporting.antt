@@ -12,11 +12,11 @@ use Rattle.limits.specs.declared.Refusal.the-variants.{BufferTooSmall}
 use Rattle.limits.specs.declared.Settings.{Settings}
 use Rattle.limits.specs.Refusals.{given, answer}
 use Rattle.hex_digits.specs.Digits.{writeHex, lineFeed}
-use Rattle.candidate_search.specs.declared.Run.{Run}
-use Rattle.candidate_search.specs.Discovery.{run, runRefusal}
+use Rattle.discovery_spec.specs.declared.Run.{Run}
+use Rattle.discovery_spec.specs.Discovery.{run, runRefusal}
 use Rattle.writer.specs.declared.Written.{Written}
 use Rattle.writer.specs.declared.Written.the-variants.{Bytes, Refused}
-use Rattle.report.specs.Program.{capacity, refusalLine, report, placelist}
+use Rattle.reporter_spec.specs.Program.{capacity, refusalLine, report, placelist}
 
 -- the last line, from what a run answers: two digits of end, eight of replays, eight of visits
 unfoldable pub runLine : Run → List ℕ

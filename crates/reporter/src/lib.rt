@@ -3,7 +3,7 @@ ghost use mathlib.Core.Path.{_≡_};
 ghost use Prim.Native.Nat.{_≤_};
 ghost use lib.ListN.{length};
 ghost use Rattle.foundation.specs.Buffers.{overwrite};
-ghost use Rattle.report.specs.Program.{placelist};
+ghost use Rattle.reporter_spec.specs.Program.{placelist};
 ghost use Rattle.reporter.specs.Reporting.{logReport, mostOutput, reported, outputAfter};
 use crate::lines::write_refusal;
 use crate::lines::write_report;
@@ -13,7 +13,7 @@ use limits::Refusal;
 use limits::Settings;
 use listing::Listing;
 use listing::list_places;
-use redundancy::Reduced;
+use reduction_spec::Reduced;
 use writer::Written;
 
 mod lines; // lines.rt: what is written after a listing

@@ -4,7 +4,7 @@ ghost use mathlib.Core.Bool.{not};
 ghost use Prim.Native.Nat.{_+_, _≤_};
 ghost use lib.ListN.{length, take, drop};
 ghost use Rattle.hex_digits.specs.Digits.{readHex};
-ghost use Rattle.report.specs.Program.{settingsMalformed, settingsIn};
+ghost use Rattle.reporter_spec.specs.Program.{settingsMalformed, settingsIn};
 use crate::SETTINGS_DIGITS;
 use hex_digits::Digit;
 use hex_digits::hex::classify;

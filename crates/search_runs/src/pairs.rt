@@ -7,12 +7,12 @@ use crate::words::begins_with;
 use crate::words::fill_rejected;
 use assurance::BothListings;
 use assurance::list_twice;
-use candidate_search::Run;
 use case_tables::words::fill_list;
 use case_tables::words::see_list;
+use discovery_spec::Run;
 use limits::Settings;
 use listing::Listing;
-use redundancy::Reduced;
+use reduction_spec::Reduced;
 
 // What one of the two answered: whether the call or the reduction of its list was refused, whether the run completed, the run, and how many words
 // were kept, 0 where none were.

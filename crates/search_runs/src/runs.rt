@@ -1,12 +1,12 @@
 // The search called on filled buffers, and what it answered and left in them.
 use crate::words::fill_rejected;
 use crate::words::see_rejected;
-use candidate_search::Discovered;
-use candidate_search::Run;
 use case_tables::words::Seen;
 use case_tables::words::fill_list;
 use case_tables::words::see_list;
 use discovery::discover;
+use discovery_spec::Discovered;
+use discovery_spec::Run;
 use limits::Refusal;
 use limits::Settings;
 use limits::number_of;

@@ -9,13 +9,13 @@ use lib.Dec.{lit<}
 use Rattle.limits.specs.declared.Refusal.the-variants.{MalformedFrame, UnknownActivity, MisplacedEndpoint, EmptyLog}
 use Rattle.limits.specs.Refusals.{answer}
 use Rattle.places.specs.Candidates.{candidates}
-use Rattle.log_format.specs.Lines.{framesOf}
-use Rattle.balances.specs.Judgement.{verdict}
-use Rattle.candidate_search.specs.declared.Discovered.the-variants.{Ran, Refused}
-use Rattle.candidate_search.specs.Search.{Progress, holding, stateOf}
-use Rattle.candidate_search.specs.Discovery.{run, runRefusal, summary, discovered}
-use Rattle.candidate_search.proofs.laws.LargerCache.{larger-cache}
-use Rattle.report.proofs.Opened.{opened}
+use Rattle.event_log_spec.specs.Lines.{framesOf}
+use Rattle.replay_spec.specs.Judgement.{verdict}
+use Rattle.discovery_spec.specs.declared.Discovered.the-variants.{Ran, Refused}
+use Rattle.discovery_spec.specs.Search.{Progress, holding, stateOf}
+use Rattle.discovery_spec.specs.Discovery.{run, runRefusal, summary, discovered}
+use Rattle.discovery_spec.proofs.laws.LargerCache.{larger-cache}
+use Rattle.reporter_spec.proofs.Opened.{opened}
 use Rattle.worked_cases.specs.WorkedCases.{settings, single, LargeCache, WorkedCases}
 
 -- the run of M11 with room for 16 or more rejected words

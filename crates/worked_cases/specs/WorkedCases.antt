@@ -9,21 +9,21 @@ use Rattle.limits.specs.declared.Refusal.{Refusal}
 use Rattle.limits.specs.declared.Settings.{Settings}
 use Rattle.limits.specs.Refusals.{number, value}
 use Rattle.places.specs.Places.{place, word}
-use Rattle.log_format.specs.declared.Checked.{Checked}
-use Rattle.log_format.specs.declared.Checked.the-variants.{Accepted, Refused}
-use Rattle.log_format.specs.Checking.{checked}
-use Rattle.balances.specs.declared.Judged.the-variants.{Counted}
-use Rattle.balances.specs.declared.Replayed.the-variants.{Balances}
-use Rattle.balances.specs.declared.Verdict.the-variants.{Fitting, Overfed}
-use Rattle.balances.specs.declared.CaseCounts.{CaseCounts}
-use Rattle.balances.specs.Judgement.{overfedCases}
-use Rattle.balances.specs.Answers.{replayed, judged}
-use Rattle.candidate_search.specs.declared.Discovered.the-variants.{Ran}
-use Rattle.candidate_search.specs.Search.{holding, stateOf}
-use Rattle.candidate_search.specs.Discovery.{run, discovered}
-use Rattle.redundancy.specs.declared.Reduced.the-variants.{Kept}
-use Rattle.redundancy.specs.Reduction.{reduced, reducedWords}
-use Rattle.report.specs.Program.{placelist}
+use Rattle.event_log_spec.specs.declared.Checked.{Checked}
+use Rattle.event_log_spec.specs.declared.Checked.the-variants.{Accepted, Refused}
+use Rattle.event_log_spec.specs.Checking.{checked}
+use Rattle.replay_spec.specs.declared.Judged.the-variants.{Counted}
+use Rattle.replay_spec.specs.declared.Replayed.the-variants.{Balances}
+use Rattle.replay_spec.specs.declared.Verdict.the-variants.{Fitting, Overfed}
+use Rattle.replay_spec.specs.declared.CaseCounts.{CaseCounts}
+use Rattle.replay_spec.specs.Judgement.{overfedCases}
+use Rattle.replay_spec.specs.Answers.{replayed, judged}
+use Rattle.discovery_spec.specs.declared.Discovered.the-variants.{Ran}
+use Rattle.discovery_spec.specs.Search.{holding, stateOf}
+use Rattle.discovery_spec.specs.Discovery.{run, discovered}
+use Rattle.reduction_spec.specs.declared.Reduced.the-variants.{Kept}
+use Rattle.reduction_spec.specs.Reduction.{reduced, reducedWords}
+use Rattle.reporter_spec.specs.Program.{placelist}
 
 abbrev pub minus : ℕ → ℤ
 minus n = negℤ (pos n)

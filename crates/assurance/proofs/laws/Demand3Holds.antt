@@ -7,12 +7,12 @@ use mathlib.Core.List.{List}
 use mathlib.Core.Option.{none}
 use lib.ListN.{length}
 use Rattle.limits.specs.declared.Settings.{Settings}
-use Rattle.candidate_search.specs.Discovery.{summary, runRefusal, capacityOf}
-use Rattle.candidate_search.specs.TwoRuns.{Completes, FoundAll, TwoRuns}
-use Rattle.candidate_search.proofs.laws.CallChecks.{not-refused}
-use Rattle.candidate_search.proofs.laws.AnyTwoRuns.{two-runs}
-use Rattle.redundancy.specs.Reduction.{reducedWords}
-use Rattle.redundancy.proofs.laws.Reducing.{reduced-kept, kept-taken}
+use Rattle.discovery_spec.specs.Discovery.{summary, runRefusal, capacityOf}
+use Rattle.discovery_spec.specs.TwoRuns.{Completes, FoundAll, TwoRuns}
+use Rattle.discovery_spec.proofs.laws.CallChecks.{not-refused}
+use Rattle.discovery_spec.proofs.laws.AnyTwoRuns.{two-runs}
+use Rattle.reduction_spec.specs.Reduction.{reducedWords}
+use Rattle.reduction_spec.proofs.laws.Reducing.{reduced-kept, kept-taken}
 use Rattle.listing.specs.declared.Listing.{Listing}
 use Rattle.listing.specs.Listing.{Resources, GoesAsWritten}
 use Rattle.assurance.specs.Demand3.{Completed, ExactlyFitting, ReducedTo, AmpleCompletes, IfFirstCompletes, AnyTwoRuns, Demand3, observed, asWritten}

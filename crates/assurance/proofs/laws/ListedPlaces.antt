@@ -18,12 +18,12 @@ use Rattle.places.specs.declared.Place.{Place}
 use Rattle.places.specs.Places.{word, placeOf}
 use Rattle.places.specs.Order.{PlaceBefore}
 use Rattle.candidate_order.proofs.laws.CandidateOrder.{candidate-under}
-use Rattle.candidate_search.specs.TwoRuns.{fittingCandidates, AllFitting}
-use Rattle.redundancy.specs.Unions.{UnionOf, isUnion}
-use Rattle.redundancy.specs.Reduction.{redundant, reducedWords}
-use Rattle.redundancy.specs.Cover.{Listable}
+use Rattle.discovery_spec.specs.TwoRuns.{fittingCandidates, AllFitting}
+use Rattle.reduction_spec.specs.Unions.{UnionOf, isUnion}
+use Rattle.reduction_spec.specs.Reduction.{redundant, reducedWords}
+use Rattle.reduction_spec.specs.Cover.{Listable}
 use Rattle.assurance.specs.Demand3.{ExactlyFitting, ExactlyIrredundant}
-use Rattle.redundancy.proofs.laws.UnionTests.{union-test}
+use Rattle.reduction_spec.proofs.laws.UnionTests.{union-test}
 
 module _ (s : Settings) (text words : List ℕ) where
   pub exactly-fitting : words ≡ map word (fittingCandidates s text) → AllFitting s text → ExactlyFitting s text words

@@ -14,12 +14,12 @@ use Rattle.foundation.proofs.laws.Buffers.{take-overwritten}
 use Rattle.limits.specs.declared.Refusal.{Refusal}
 use Rattle.limits.specs.declared.Settings.{Settings}
 use Rattle.limits.specs.Refusals.{answer}
-use Rattle.candidate_search.specs.declared.Discovered.the-variants.{Ran, Refused}
-use Rattle.candidate_search.specs.declared.Run.{Run}
-use Rattle.candidate_search.specs.Search.{Capacity}
-use Rattle.candidate_search.specs.Discovery.{run, summary, runRefusal, discovered, capacityOf, foundAfter}
-use Rattle.candidate_search.specs.TwoRuns.{foundBy, AtLeast}
-use Rattle.redundancy.specs.Reduction.{reduced, reducedAfter}
+use Rattle.discovery_spec.specs.declared.Discovered.the-variants.{Ran, Refused}
+use Rattle.discovery_spec.specs.declared.Run.{Run}
+use Rattle.discovery_spec.specs.Search.{Capacity}
+use Rattle.discovery_spec.specs.Discovery.{run, summary, runRefusal, discovered, capacityOf, foundAfter}
+use Rattle.discovery_spec.specs.TwoRuns.{foundBy, AtLeast}
+use Rattle.reduction_spec.specs.Reduction.{reduced, reducedAfter}
 use Rattle.listing.specs.declared.Listing.the-variants.{Complete}
 use Rattle.listing.specs.Listing.{Resources, foundIn, listingOf, keptOf, searched, foundLeft, keptLeft, listing}
 use Rattle.assurance.specs.Demand3.{runOf, Completed, AtLeastAsLarge}

@@ -2,7 +2,7 @@
 -- Assumes nothing.
 use mathlib.Core.Path.{_≡_, refl, sym, _∙_}
 use borrow.Author.Needs.{needs}
-use Rattle.log_format.specs.Checking.{checked}
+use Rattle.event_log_spec.specs.Checking.{checked}
 use Rattle.capi.specs.Refused.{numberGiven, valueGiven, refusalInChecked}
 use Rattle.capi.specs.Results.{sizesAfter}
 use Rattle.capi.proofs.placelist_check.Statement.{statement}

@@ -3,7 +3,7 @@
 use mathlib.Core.Path.{_≡_, refl, sym, _∙_}
 use borrow.Author.Needs.{needs}
 use Rattle.places.specs.Places.{place}
-use Rattle.balances.specs.Answers.{judged}
+use Rattle.replay_spec.specs.Answers.{judged}
 use Rattle.capi.specs.Refused.{numberGiven, valueGiven, refusalInJudged}
 use Rattle.capi.specs.Results.{countsAfter, verdictAfter}
 use Rattle.capi.proofs.placelist_judge.Statement.{statement}

@@ -3,7 +3,7 @@
 use mathlib.Core.Path.{_≡_, refl, sym, _∙_}
 use lib.ListN.{length}
 use borrow.Author.Needs.{needs}
-use Rattle.redundancy.specs.Reduction.{reduced}
+use Rattle.reduction_spec.specs.Reduction.{reduced}
 use Rattle.capi.specs.Refused.{numberGiven, valueGiven, refusalInReduced}
 use Rattle.capi.specs.Results.{keptCountAfter}
 use Rattle.capi.proofs.placelist_reduce.Statement.{statement}

@@ -5,7 +5,7 @@ use mir.Syntax.{w16}
 use mir.ValLaws.{toZ-ofZ}
 use borrow.Author.Needs.{needs}
 use Rattle.places.specs.Places.{place}
-use Rattle.balances.specs.Answers.{replayed}
+use Rattle.replay_spec.specs.Answers.{replayed}
 use Rattle.capi.specs.Refused.{numberGiven, valueGiven, refusalInReplayed}
 use Rattle.capi.specs.Results.{leastAfter, lastAfter}
 use Rattle.capi.proofs.placelist_replay.Statement.{statement}

@@ -2,7 +2,7 @@
 -- Assumes nothing.
 use mathlib.Core.Path.{_≡_, refl, sym, _∙_}
 use borrow.Author.Needs.{needs}
-use Rattle.candidate_search.specs.Discovery.{discovered, capacityOf}
+use Rattle.discovery_spec.specs.Discovery.{discovered, capacityOf}
 use Rattle.capi.specs.Settings.{settingsOf}
 use Rattle.capi.specs.Refused.{numberGiven, valueGiven, refusalInDiscovered}
 use Rattle.capi.specs.Results.{runAfter}
@@ -14,7 +14,7 @@ answered : (c : tie.After-discover)
     → let a = c .before .before .before .before .before .before .args in
     c .discover .result
     ≡ discovered
-    (settingsOf (a .activities) (a .mostinputs) (a .mostoutputs) (a .threshold))
+    (settingsOf (a .activities) (a .most-inputs) (a .most-outputs) (a .threshold))
     (a .text .now)
     (capacityOf (a .rejected .now) (a .found .now) (a .budget))
 answered c = c .discover .ensures .0

@@ -12,9 +12,9 @@ use Rattle.limits.specs.Settings.{settingsInRange}
 use Rattle.limits.proofs.laws.SettingsRanges.{in-range}
 use Rattle.candidate_order.proofs.laws.Succession.{first-kind}
 use Rattle.event_log.proofs.laws.FrameIndex.{stored-room, stored-index}
-use Rattle.candidate_search.specs.Discovery.{runRefusal}
+use Rattle.discovery_spec.specs.Discovery.{runRefusal}
 use Rattle.discovery.proofs.laws.CallAnswers.{log-known, searchable, all-countable, refused-answers, run-answers}
-use Rattle.candidate_search.proofs.laws.CallChecks.{not-refused, settings-refused, log-refused, log-accepted}
+use Rattle.discovery_spec.proofs.laws.CallChecks.{not-refused, settings-refused, log-refused, log-accepted}
 use Rattle.discovery.proofs.discover.Statement.{statement}
 use Rattle.discovery.proofs.discover.Tie as tie
 

@@ -6,9 +6,9 @@ use mathlib.Core.List.{List}
 use lib.Seq.{length-take-le}
 use Rattle.foundation.specs.Buffers.{overwrite}
 use Rattle.foundation.proofs.laws.Buffers.{overwrite-front}
-use Rattle.candidate_search.specs.declared.Run.{Run}
-use Rattle.candidate_search.specs.Search.{going, stopped, stateOf, endOf}
-use Rattle.candidate_search.specs.Discovery.{summary}
+use Rattle.discovery_spec.specs.declared.Run.{Run}
+use Rattle.discovery_spec.specs.Search.{going, stopped, stateOf, endOf}
+use Rattle.discovery_spec.specs.Discovery.{summary}
 use Rattle.discovery.specs.Standing.{stateIn, Stands, Leaves}
 
 module _ {r : Run} {rejected found : List ℕ} (stands : Stands r rejected found) where

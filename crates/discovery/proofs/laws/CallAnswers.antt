@@ -16,17 +16,17 @@ use Rattle.places.specs.Candidates.{candidates, sets}
 use Rattle.places.specs.Succession.{candidatesFrom}
 use Rattle.candidate_order.proofs.laws.CandidateOrder.{fewer-candidates}
 use Rattle.candidate_order.proofs.laws.Succession.{from-first}
-use Rattle.log_format.specs.Frames.{WrittenLog}
-use Rattle.log_format.specs.Lines.{framesOf}
-use Rattle.log_format.proofs.laws.WiderBound.{log-wider}
+use Rattle.event_log_spec.specs.Frames.{WrittenLog}
+use Rattle.event_log_spec.specs.Lines.{framesOf}
+use Rattle.event_log_spec.proofs.laws.WiderBound.{log-wider}
 use Rattle.event_log.specs.Stepping.{frameIndex}
-use Rattle.candidate_search.specs.declared.Discovered.{Discovered}
-use Rattle.candidate_search.specs.declared.Discovered.the-variants.{Ran, Refused}
-use Rattle.candidate_search.specs.declared.Run.{Run}
-use Rattle.candidate_search.specs.Search.{start, search}
-use Rattle.candidate_search.specs.Discovery.{run, runRefusal, discovered, capacityOf, foundAfter, rejectedAfter}
+use Rattle.discovery_spec.specs.declared.Discovered.{Discovered}
+use Rattle.discovery_spec.specs.declared.Discovered.the-variants.{Ran, Refused}
+use Rattle.discovery_spec.specs.declared.Run.{Run}
+use Rattle.discovery_spec.specs.Search.{start, search}
+use Rattle.discovery_spec.specs.Discovery.{run, runRefusal, discovered, capacityOf, foundAfter, rejectedAfter}
 use Rattle.discovery.specs.Standing.{Searchable, stateIn, carriedOn, Leaves}
-use Rattle.candidate_search.proofs.laws.CallChecks.{NotRefused}
+use Rattle.discovery_spec.proofs.laws.CallChecks.{NotRefused}
 use Rattle.discovery.proofs.laws.OutputsLeft.{rows-whole}
 
 -- the text is a log under the widest bound

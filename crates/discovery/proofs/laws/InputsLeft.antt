@@ -18,14 +18,14 @@ use Rattle.places.specs.Places.{place}
 use Rattle.places.specs.Candidates.{candidateSet, sets, extends, descends}
 use Rattle.places.specs.Succession.{from, setAfter, setPast, withOutputs}
 use Rattle.candidate_order.proofs.laws.Succession.{from-nothing, after-from, past-from, after-kind, past-kind}
-use Rattle.balances.specs.declared.Verdict.{Verdict}
-use Rattle.candidate_search.specs.declared.Run.{Run}
-use Rattle.candidate_search.specs.Search.{Progress, going, isPruned, visit, step, stateOf}
-use Rattle.candidate_search.specs.Discovery.{capacityOf}
+use Rattle.replay_spec.specs.declared.Verdict.{Verdict}
+use Rattle.discovery_spec.specs.declared.Run.{Run}
+use Rattle.discovery_spec.specs.Search.{Progress, going, isPruned, visit, step, stateOf}
+use Rattle.discovery_spec.specs.Discovery.{capacityOf}
 use Rattle.discovery.specs.Standing.{stateIn, Leaves, prunes}
 use Rattle.discovery.proofs.laws.Onward.{Beginning, over, Done, Reached, reached-end, visits-left, reached-stop, reached-on}
 use Rattle.discovery.proofs.laws.PrunedAside.{NotBelow, run-pruned}
-use Rattle.candidate_search.proofs.laws.RunSteps.{PrunedWith, Stepped, step-made}
+use Rattle.discovery_spec.proofs.laws.RunSteps.{PrunedWith, Stepped, step-made}
 
 -- with the same outputs, the input sets decide who descends from whom
 module _ (i j o : ℕ) where

@@ -13,12 +13,12 @@ use Rattle.foundation.specs.Lists.{Each, foldl}
 use Rattle.foundation.specs.Buffers.{overwrite}
 use Rattle.foundation.proofs.laws.Buffers.{take-overwritten, overwrite-again, overwrite-room}
 use Rattle.places.specs.declared.Place.{Place}
-use Rattle.balances.specs.declared.Verdict.{Verdict}
-use Rattle.candidate_search.specs.declared.Run.{Run}
-use Rattle.candidate_search.specs.Search.{Capacity, State, Progress, going, stopped, step, stateOf, endOf}
-use Rattle.candidate_search.specs.Discovery.{summary, capacityOf}
+use Rattle.replay_spec.specs.declared.Verdict.{Verdict}
+use Rattle.discovery_spec.specs.declared.Run.{Run}
+use Rattle.discovery_spec.specs.Search.{Capacity, State, Progress, going, stopped, step, stateOf, endOf}
+use Rattle.discovery_spec.specs.Discovery.{summary, capacityOf}
 use Rattle.discovery.specs.Standing.{stateIn, Stands, Leaves}
-use Rattle.candidate_search.proofs.laws.RunSteps.{EndGiven, Grown, run-grown, run-visits, run-end-given}
+use Rattle.discovery_spec.proofs.laws.RunSteps.{EndGiven, Grown, run-grown, run-visits, run-end-given}
 use Rattle.discovery.proofs.laws.AsTheyAre.{stands-leaves}
 use Rattle.discovery.proofs.laws.PrunedAside.{NotBelow, pruning, pruningBelow, run-aside}
 

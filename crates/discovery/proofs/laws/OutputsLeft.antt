@@ -21,13 +21,13 @@ use Rattle.places.specs.Succession.{from, setAfter, withOutputs, rows}
 use Rattle.candidate_order.proofs.laws.From.{Apart, from-ends}
 use Rattle.candidate_order.proofs.laws.SetOrder.{sets-distinct}
 use Rattle.candidate_order.proofs.laws.Succession.{from-nothing, from-first, first-kind, after-from, after-kind}
-use Rattle.candidate_search.specs.declared.Run.{Run}
-use Rattle.candidate_search.specs.Search.{going, stateOf}
-use Rattle.candidate_search.specs.Discovery.{capacityOf}
+use Rattle.discovery_spec.specs.declared.Run.{Run}
+use Rattle.discovery_spec.specs.Search.{going, stateOf}
+use Rattle.discovery_spec.specs.Discovery.{capacityOf}
 use Rattle.discovery.specs.Standing.{stateIn, Leaves}
 use Rattle.discovery.proofs.laws.Onward.{Beginning, over, Done, Reached, reached-end, visits-left, reached-stop, reached-on}
 use Rattle.discovery.proofs.laws.PrunedAside.{NotBelow}
-use Rattle.candidate_search.proofs.laws.RunSteps.{run-outputs}
+use Rattle.discovery_spec.proofs.laws.RunSteps.{run-outputs}
 
 -- a candidate with other outputs stands below none of these
 other-outputs : (o : ℕ) (c : Place) {ps : List Place} → (o ≡ c .outputs → ⊥) → Each (λ (d : Place). d .outputs ≡ o) ps → NotBelow ps c

@@ -11,10 +11,10 @@ use Rattle.foundation.proofs.laws.Any.{any-append}
 use Rattle.places.specs.declared.Place.{Place}
 use Rattle.places.specs.Places.{word}
 use Rattle.places.specs.Candidates.{descends}
-use Rattle.balances.specs.declared.Verdict.{Verdict}
-use Rattle.balances.specs.declared.Verdict.the-variants.{Fitting, Underfed, Overfed, Both}
-use Rattle.candidate_search.specs.Rejected.{rejectedWord, ruled, ruledOverfed}
-use Rattle.candidate_search.specs.Search.{Capacity, State, Progress, going, stopped, visited, replayedOnce, withFound, withRejected, withPruned, proceed, isPruned, accept, reject, conclude, replay, visit, step}
+use Rattle.replay_spec.specs.declared.Verdict.{Verdict}
+use Rattle.replay_spec.specs.declared.Verdict.the-variants.{Fitting, Underfed, Overfed, Both}
+use Rattle.discovery_spec.specs.Rejected.{rejectedWord, ruled, ruledOverfed}
+use Rattle.discovery_spec.specs.Search.{Capacity, State, Progress, going, stopped, visited, replayedOnce, withFound, withRejected, withPruned, proceed, isPruned, accept, reject, conclude, replay, visit, step}
 
 -- c stands below none of these
 abbrev pub NotBelow : List Place → Place → Type 0

@@ -17,17 +17,17 @@ use Rattle.foundation.proofs.laws.Buffers.{overwrite-next}
 use Rattle.places.specs.declared.Place.{Place}
 use Rattle.places.specs.Places.{word}
 use Rattle.places.proofs.laws.Words.{Storable}
-use Rattle.balances.specs.declared.Verdict.{Verdict}
-use Rattle.balances.specs.declared.Verdict.the-variants.{Fitting, Underfed, Overfed, Both}
+use Rattle.replay_spec.specs.declared.Verdict.{Verdict}
+use Rattle.replay_spec.specs.declared.Verdict.the-variants.{Fitting, Underfed, Overfed, Both}
 use Rattle.discovery.specs.declared.Ruling.{Ruling}
 use Rattle.discovery.specs.declared.Ruling.the-variants.{Unruled, AsUnderfed, AsOverfed}
-use Rattle.candidate_search.specs.declared.Run.{Run}
-use Rattle.candidate_search.specs.Rejected.{mark, rejectedWord, rulesUnderfed, ruledOverfed, ruled}
+use Rattle.discovery_spec.specs.declared.Run.{Run}
+use Rattle.discovery_spec.specs.Rejected.{mark, rejectedWord, rulesUnderfed, ruledOverfed, ruled}
 use Rattle.discovery.specs.Rulings.{rulingOf}
-use Rattle.candidate_search.specs.Search.{State, Progress, going, stopped, withFound, withRejected, withPruned, proceed, accept, reject, conclude, stateOf, endOf}
-use Rattle.candidate_search.specs.Discovery.{summary, capacityOf}
+use Rattle.discovery_spec.specs.Search.{State, Progress, going, stopped, withFound, withRejected, withPruned, proceed, accept, reject, conclude, stateOf, endOf}
+use Rattle.discovery_spec.specs.Discovery.{summary, capacityOf}
 use Rattle.discovery.specs.Standing.{stateIn, Stands, Leaves, prunes}
-use Rattle.candidate_search.proofs.laws.Rulings.{isOverfed, own-overfed, overfed-more}
+use Rattle.discovery_spec.proofs.laws.Rulings.{isOverfed, own-overfed, overfed-more}
 use Rattle.discovery.proofs.laws.AsTheyAre.{rejected-same, found-same, stopped-leaves, stands-leaves}
 
 -- what a ruling says: that a word rules the candidate overfed, and that one rules it at all

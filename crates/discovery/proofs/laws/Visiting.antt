@@ -9,13 +9,13 @@ use lib.ListN.{take}
 use lib.Seq.{length-take-le}
 use borrow.Author.Tests.{le-leb, lt-leb}
 use Rattle.places.specs.declared.Place.{Place}
-use Rattle.balances.specs.declared.Verdict.{Verdict}
+use Rattle.replay_spec.specs.declared.Verdict.{Verdict}
 use Rattle.discovery.specs.declared.Ruling.{Ruling}
 use Rattle.discovery.specs.declared.Ruling.the-variants.{Unruled}
-use Rattle.candidate_search.specs.declared.Run.{Run}
+use Rattle.discovery_spec.specs.declared.Run.{Run}
 use Rattle.discovery.specs.Rulings.{rulingOf}
-use Rattle.candidate_search.specs.Search.{State, Progress, going, stopped, visited, replayedOnce, withPruned, proceed, conclude, replay, visit, stateOf, endOf}
-use Rattle.candidate_search.specs.Discovery.{summary, capacityOf}
+use Rattle.discovery_spec.specs.Search.{State, Progress, going, stopped, visited, replayedOnce, withPruned, proceed, conclude, replay, visit, stateOf, endOf}
+use Rattle.discovery_spec.specs.Discovery.{summary, capacityOf}
 use Rattle.discovery.specs.Standing.{stateIn, Stands, Leaves, prunes}
 use Rattle.discovery.proofs.laws.AsTheyAre.{rejected-same, found-same, stopped-leaves}
 use Rattle.discovery.proofs.laws.Recording.{saysOverfed, saysRuled, ruling-says}

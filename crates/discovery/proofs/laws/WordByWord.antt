@@ -12,7 +12,7 @@ use Rattle.foundation.specs.Lists.{any}
 use Rattle.places.specs.declared.Place.{Place}
 use Rattle.discovery.specs.declared.Ruling.{Ruling}
 use Rattle.discovery.specs.declared.Ruling.the-variants.{Unruled, AsUnderfed, AsOverfed}
-use Rattle.candidate_search.specs.Rejected.{rulesUnderfed, rulesOverfed, ruledOverfed}
+use Rattle.discovery_spec.specs.Rejected.{rulesUnderfed, rulesOverfed, ruledOverfed}
 use Rattle.discovery.specs.Rulings.{rulingOf}
 
 module _ (c : Place) where

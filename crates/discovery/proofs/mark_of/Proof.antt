@@ -1,7 +1,7 @@
 -- `discovery::mark_of` meets its contract: each arm knows the verdict, and has its mark.
 -- Assumes nothing.
 use borrow.Author.Needs.{needs}
-use Rattle.candidate_search.specs.Rejected.{mark}
+use Rattle.discovery_spec.specs.Rejected.{mark}
 use Rattle.discovery.proofs.mark_of.Statement.{statement}
 use Rattle.discovery.proofs.mark_of.Tie as tie
 

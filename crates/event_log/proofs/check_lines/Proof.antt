@@ -6,8 +6,8 @@ use mathlib.Core.Path.{_≡_, sym, _∙_}
 use native.Mathlib.Omega.{arith}
 use borrow.Author.Needs.{needs}
 use lib.ListN.{length, drop}
-use Rattle.log_format.specs.Frames.{mostFrames}
-use Rattle.log_format.specs.Lines.{lines, firstLine}
+use Rattle.event_log_spec.specs.Frames.{mostFrames}
+use Rattle.event_log_spec.specs.Lines.{lines, firstLine}
 use Rattle.event_log.specs.Pass.{linesChecked}
 use Rattle.event_log.proofs.laws.LogPass.{pass, pass-all, at-end, at-faulty, at-sound, SoundLine, sound-line}
 use Rattle.event_log.proofs.check_lines.Statement.{statement}

@@ -4,7 +4,7 @@ use mathlib.Core.Path.{sym, _∙_}
 use native.Mathlib.Omega.{arith}
 use borrow.Author.Needs.{needs}
 use borrow.Author.Tests.{not-true, not-false}
-use Rattle.log_format.proofs.laws.LogChecks.{bound-refused, empty-refused}
+use Rattle.event_log_spec.proofs.laws.LogChecks.{bound-refused, empty-refused}
 use Rattle.event_log.proofs.laws.LogPass.{lines-checked}
 use Rattle.event_log.proofs.check_log.Statement.{statement}
 use Rattle.event_log.proofs.check_log.Tie as tie

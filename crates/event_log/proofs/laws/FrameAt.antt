@@ -8,10 +8,10 @@ use mathlib.Core.List.{List, _∷_, _++_, flatMap, append-assoc}
 use lib.ListN.{length, take, drop, length-append, length-drop}
 use lib.Seq.{take-at, drop-at, drop-drop, drop-append-add}
 use Rattle.hex_digits.specs.Digits.{writeHex, lineFeed}
-use Rattle.log_format.specs.Frames.{Frame, countDigits, writeFrame}
+use Rattle.event_log_spec.specs.Frames.{Frame, countDigits, writeFrame}
 use Rattle.event_log.specs.Stepping.{casesAt, traceEnd}
 use Rattle.hex_digits.proofs.laws.DigitLaws.{length-write}
-use Rattle.log_format.proofs.laws.PairLaws.{length-pairs}
+use Rattle.event_log_spec.proofs.laws.PairLaws.{length-pairs}
 use Rattle.event_log.proofs.laws.FrameSteps.{cases-written, end-written}
 
 module _ (text : List ℕ) (at : ℕ) (f : Frame) (rest : List ℕ) (e : drop at text ≡ writeFrame f ++ rest) where

@@ -15,8 +15,8 @@ use Rattle.foundation.specs.Buffers.{overwrite}
 use Rattle.foundation.proofs.laws.Buffers.{overwrite-more, take-overwritten}
 use Rattle.hex_digits.specs.Digits.{writeHex, lineFeed}
 use Rattle.hex_digits.proofs.laws.DigitLaws.{length-write}
-use Rattle.log_format.specs.Frames.{Frame, FrameUnder, WrittenLog, countDigits, mostFrames, writeFrame}
-use Rattle.log_format.proofs.laws.PairLaws.{length-pairs}
+use Rattle.event_log_spec.specs.Frames.{Frame, FrameUnder, WrittenLog, countDigits, mostFrames, writeFrame}
+use Rattle.event_log_spec.proofs.laws.PairLaws.{length-pairs}
 use Rattle.event_log.specs.Stepping.{casesAt, traceEnd, frameIndex}
 use Rattle.event_log.proofs.laws.FrameAt.{frame-cases, frame-end, frame-inside, frame-next}
 

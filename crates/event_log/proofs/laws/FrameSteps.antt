@@ -9,10 +9,10 @@ use borrow.Author.Tests.{le-leb, lt-leb, ne-eqb}
 use lib.ListN.{length, drop, getD, length-append, length-drop, drop-of-length-le}
 use lib.Seq.{drop-cons, take-at, drop-drop}
 use Rattle.hex_digits.specs.Digits.{digitValue, readHex, writeHex, lineFeed}
-use Rattle.log_format.specs.Frames.{countDigits}
+use Rattle.event_log_spec.specs.Frames.{countDigits}
 use Rattle.event_log.specs.Stepping.{casesAt, pairsLength, traceEnd}
 use Rattle.hex_digits.proofs.laws.DigitLaws.{byte-is-digit, read-write, length-write}
-use Rattle.log_format.proofs.laws.TextLines.{digit-no-feed}
+use Rattle.event_log_spec.proofs.laws.TextLines.{digit-no-feed}
 use Rattle.log_lines.proofs.laws.Counts.{four-from}
 
 module _ (text : List ℕ) (from : ℕ) where

@@ -16,18 +16,18 @@ use Rattle.foundation.proofs.laws.Booleans.{impossible}
 use Rattle.limits.specs.declared.Refusal.{Refusal}
 use Rattle.limits.specs.Refusals.{answer}
 use Rattle.limits.specs.Settings.{boundInRange}
-use Rattle.log_format.specs.declared.Checked.{Checked}
-use Rattle.log_format.specs.declared.Checked.the-variants.{Accepted, Refused}
+use Rattle.event_log_spec.specs.declared.Checked.{Checked}
+use Rattle.event_log_spec.specs.declared.Checked.the-variants.{Accepted, Refused}
 use Rattle.log_lines.specs.declared.LineChecked.the-variants.{Sound, Faulty}
-use Rattle.log_format.specs.Frames.{countDigits, mostFrames, totalCases}
-use Rattle.log_format.specs.Lines.{Line, lines, firstLine, frameOf, framesOf}
-use Rattle.log_format.specs.Checking.{lineFault, linesFault, textFault, checked}
+use Rattle.event_log_spec.specs.Frames.{countDigits, mostFrames, totalCases}
+use Rattle.event_log_spec.specs.Lines.{Line, lines, firstLine, frameOf, framesOf}
+use Rattle.event_log_spec.specs.Checking.{lineFault, linesFault, textFault, checked}
 use Rattle.log_lines.specs.Reading.{lineChecked}
 use Rattle.event_log.specs.Pass.{linesChecked}
-use Rattle.log_format.proofs.laws.Lines.{lines-step}
+use Rattle.event_log_spec.proofs.laws.Lines.{lines-step}
 use Rattle.limits.proofs.laws.FirstOf.{only-one}
-use Rattle.log_format.proofs.laws.FrameLines.{no-fault-framed}
-use Rattle.log_format.proofs.laws.LogChecks.{bound-passes, lines-decide}
+use Rattle.event_log_spec.proofs.laws.FrameLines.{no-fault-framed}
+use Rattle.event_log_spec.proofs.laws.LogChecks.{bound-passes, lines-decide}
 
 -- checking a log of some byte under a bound in its range is checking its lines
 pub lines-checked : (A : ℕ) (text : List ℕ) → boundInRange A ≡ true → 1 ≤ length text → checked A text ≡ linesChecked A text

@@ -12,8 +12,8 @@ use borrow.Fn.Kinds.{In}
 use borrow.Fn.PlainCycle.{Measures, is, falls, and}
 use lib.Count.{ones}
 use lib.ListN.{length}
-use Rattle.redundancy.proofs.laws.Covers.{usable-le, usable-fewer}
-use Rattle.redundancy.proofs.laws.CoverParts.{parts-listable}
+use Rattle.reduction_spec.proofs.laws.Covers.{usable-le, usable-fewer}
+use Rattle.reduction_spec.proofs.laws.CoverParts.{parts-listable}
 use Rattle.exact_cover.specs.Choosing.{Chosen}
 use Rattle.exact_cover.proofs.laws.GatheredParts.{gathered-room, gathered-parts, found-in-parts}
 use Rattle.exact_cover.proofs.laws.Trying.{says-no, no-outputs-left, no-inputs-left, some-activity, Tried, tried-none, tried-more, tried-all, succeeds}

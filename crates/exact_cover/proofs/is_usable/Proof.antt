@@ -6,7 +6,7 @@ use mathlib.Core.Bool.{not}
 use borrow.Author.Tests.{eq-eqb, ne-eqb}
 use lib.Bits.{bitAnd}
 use lib.Dec.{eqb}
-use Rattle.redundancy.specs.Cover.{usable}
+use Rattle.reduction_spec.specs.Cover.{usable}
 use Rattle.exact_cover.proofs.is_usable.Statement.{statement}
 use Rattle.exact_cover.proofs.is_usable.Tie as tie
 

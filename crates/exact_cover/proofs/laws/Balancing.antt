@@ -12,7 +12,7 @@ use lib.ListN.{length, getD, take, drop, take-append-drop}
 use lib.Seq.{take-suc, take-all}
 use Rattle.foundation.specs.Lists.{any}
 use Rattle.foundation.proofs.laws.Any.{any-append}
-use Rattle.redundancy.specs.Cover.{usable, inputCount, outputCount, manyInputs, fewInputs, balanced}
+use Rattle.reduction_spec.specs.Cover.{usable, inputCount, outputCount, manyInputs, fewInputs, balanced}
 
 -- the product of two counts of 16 bits
 pub small-product : (m n : ℕ) → m ≤ 16 → n ≤ 16 → m * n ≤ 256

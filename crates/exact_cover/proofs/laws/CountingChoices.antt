@@ -14,7 +14,7 @@ use Rattle.foundation.specs.Lists.{keep}
 use Rattle.foundation.proofs.laws.Booleans.{by-test}
 use Rattle.foundation.proofs.laws.Lists.{keep-append}
 use Rattle.places.specs.Sets.{has, member}
-use Rattle.redundancy.specs.Cover.{usable, choices}
+use Rattle.reduction_spec.specs.Cover.{usable, choices}
 use Rattle.exact_cover.specs.Choosing.{Growable, Grown, Counts}
 
 module _ (whole left : ℕ) (words : List ℕ) (w : ℕ) where

@@ -14,7 +14,7 @@ use lib.Seq.{getD-set-same, getD-set-other}
 use Rattle.foundation.proofs.laws.Booleans.{by-test}
 use Rattle.places.specs.Sets.{has}
 use Rattle.places.proofs.laws.SetBits.{has-half}
-use Rattle.redundancy.proofs.laws.Parts.{Part, part-le, part-has, bits-part}
+use Rattle.reduction_spec.proofs.laws.Parts.{Part, part-le, part-has, bits-part}
 use Rattle.exact_cover.specs.Choosing.{Growable, Grown}
 
 -- one activity alone

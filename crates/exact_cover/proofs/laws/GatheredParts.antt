@@ -10,8 +10,8 @@ use mathlib.Core.Bool.{Bool, true}
 use mathlib.Core.List.{List}
 use lib.ListN.{length, take, drop, length-append}
 use Rattle.foundation.proofs.laws.Buffers.{take-overwritten}
-use Rattle.redundancy.specs.Cover.{Cover, partsOf}
-use Rattle.redundancy.proofs.laws.CoverParts.{cover-parts}
+use Rattle.reduction_spec.specs.Cover.{Cover, partsOf}
+use Rattle.reduction_spec.proofs.laws.CoverParts.{cover-parts}
 use Rattle.exact_cover.specs.declared.Gathered.{Gathered}
 use Rattle.exact_cover.specs.declared.Gathered.the-variants.{All}
 use Rattle.exact_cover.specs.Gathering.{GatheredAs}

@@ -16,9 +16,9 @@ use lib.Pow.{pow-mono}
 use Rattle.foundation.proofs.laws.Booleans.{by-test}
 use Rattle.foundation.proofs.laws.Each.{keep-none, each-always}
 use Rattle.places.specs.Sets.{has, member}
-use Rattle.redundancy.specs.Cover.{usable, Cover, choices}
-use Rattle.redundancy.proofs.laws.Parts.{Part, part-le, part-has, bits-part}
-use Rattle.redundancy.proofs.laws.Covers.{usable-parts, uncoverable}
+use Rattle.reduction_spec.specs.Cover.{usable, Cover, choices}
+use Rattle.reduction_spec.proofs.laws.Parts.{Part, part-le, part-has, bits-part}
+use Rattle.reduction_spec.proofs.laws.Covers.{usable-parts, uncoverable}
 use Rattle.exact_cover.specs.declared.Tally.{Tally}
 use Rattle.exact_cover.specs.Choosing.{Tallied, Fewest}
 

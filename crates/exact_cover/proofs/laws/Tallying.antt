@@ -10,7 +10,7 @@ use mathlib.Core.List.{List, [], _∷_, _++_}
 use lib.Bits.{bitAnd, bitOr}
 use Rattle.places.specs.Sets.{has}
 use Rattle.places.proofs.laws.SetBits.{has-and, has-or}
-use Rattle.redundancy.specs.Cover.{usable, choices}
+use Rattle.reduction_spec.specs.Cover.{usable, choices}
 use Rattle.exact_cover.specs.declared.Tally.{Tally}
 use Rattle.exact_cover.specs.Choosing.{Tallied}
 use Rattle.exact_cover.proofs.laws.CountingChoices.{choices-same, choices-one}

@@ -17,8 +17,8 @@ use Rattle.foundation.proofs.laws.Booleans.{by-test}
 use Rattle.foundation.proofs.laws.Each.{each-append}
 use Rattle.foundation.proofs.laws.Members.{each-member, member-at}
 use Rattle.places.specs.Sets.{has}
-use Rattle.redundancy.specs.Cover.{Listable, usable, Cover, nothing-left, take-part}
-use Rattle.redundancy.proofs.laws.Covers.{word-halves, covering-part, both-halves}
+use Rattle.reduction_spec.specs.Cover.{Listable, usable, Cover, nothing-left, take-part}
+use Rattle.reduction_spec.proofs.laws.Covers.{word-halves, covering-part, both-halves}
 use Rattle.exact_cover.specs.Choosing.{Fewest}
 
 -- an answer that says no is right where there is no cover

@@ -9,13 +9,13 @@ use borrow.Author.Tests.{eq-eqb, ne-eqb}
 use lib.ListN.{length, take}
 use Rattle.limits.specs.declared.Refusal.{Refusal}
 use Rattle.limits.specs.declared.Settings.{Settings}
-use Rattle.candidate_search.specs.declared.Discovered.{Discovered}
-use Rattle.candidate_search.specs.declared.Discovered.the-variants as Answered
-use Rattle.candidate_search.specs.declared.Run.{Run}
-use Rattle.candidate_search.specs.Discovery.{discovered, capacityOf, foundAfter, rejectedAfter}
-use Rattle.candidate_search.proofs.laws.AnswerLaws.{answer-within}
-use Rattle.redundancy.specs.declared.Reduced.{Reduced}
-use Rattle.redundancy.specs.Reduction.{reduced, reducedAfter}
+use Rattle.discovery_spec.specs.declared.Discovered.{Discovered}
+use Rattle.discovery_spec.specs.declared.Discovered.the-variants as Answered
+use Rattle.discovery_spec.specs.declared.Run.{Run}
+use Rattle.discovery_spec.specs.Discovery.{discovered, capacityOf, foundAfter, rejectedAfter}
+use Rattle.discovery_spec.proofs.laws.AnswerLaws.{answer-within}
+use Rattle.reduction_spec.specs.declared.Reduced.{Reduced}
+use Rattle.reduction_spec.specs.Reduction.{reduced, reducedAfter}
 use Rattle.listing.specs.declared.Listing.{Listing}
 use Rattle.listing.specs.declared.Listing.the-variants.{Refused, Incomplete, Complete}
 use Rattle.listing.specs.Listing.{Resources, foundIn, listingOf, keptOf, searched, rejectedLeft, foundLeft, keptLeft, listing, GoesAsWritten}

@@ -12,7 +12,7 @@ use lib.ListN.{length, take, getD}
 use Rattle.foundation.specs.Lists.{any, foldl}
 use Rattle.foundation.proofs.laws.Booleans.{by-test}
 use Rattle.log_lines.specs.declared.Phase.the-variants.{Before, Inside, Misplaced}
-use Rattle.log_format.specs.Checking.{endpointMisplaced}
+use Rattle.event_log_spec.specs.Checking.{endpointMisplaced}
 use Rattle.log_lines.specs.Reading.{nextPhase, incomplete}
 
 -- a misplaced endpoint stays one

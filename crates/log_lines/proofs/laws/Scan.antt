@@ -21,11 +21,11 @@ use Rattle.hex_digits.specs.declared.Pair.the-variants.{Number, NonDigits}
 use Rattle.log_lines.specs.declared.Phase.{Phase}
 use Rattle.log_lines.specs.declared.Phase.the-variants.{Before}
 use Rattle.hex_digits.specs.Digits.{isDigit, readHex, pairOf, lineFeed}
-use Rattle.log_format.specs.Lines.{Line, firstLine, readPairs}
-use Rattle.log_format.specs.Checking.{namesUnknown}
+use Rattle.event_log_spec.specs.Lines.{Line, firstLine, readPairs}
+use Rattle.event_log_spec.specs.Checking.{namesUnknown}
 use Rattle.log_lines.specs.Reading.{nextPhase, incomplete, inPairs, activitiesIn}
-use Rattle.log_format.proofs.laws.Lines.{withByte, first-none, first-feed, first-byte}
-use Rattle.log_format.proofs.laws.TextLines.{digit-no-feed}
+use Rattle.event_log_spec.proofs.laws.Lines.{withByte, first-none, first-feed, first-byte}
+use Rattle.event_log_spec.proofs.laws.TextLines.{digit-no-feed}
 use Rattle.hex_digits.proofs.laws.PairNumbers.{pair-digits, pair-no-digits}
 use Rattle.log_lines.proofs.laws.Phases.{phases-misplaced}
 

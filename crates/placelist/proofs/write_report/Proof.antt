@@ -11,7 +11,7 @@ use lib.Seq.{length-take-le}
 use Rattle.foundation.proofs.laws.Booleans.{by-test, impossible}
 use Rattle.foundation.proofs.laws.Buffers.{overwrite-room}
 use Rattle.writer.specs.declared.Written.the-variants.{Bytes}
-use Rattle.report.specs.Program.{placelist}
+use Rattle.reporter_spec.specs.Program.{placelist}
 use Rattle.reporter.specs.Reporting.{mostOutput, reportingRefusal, reported, outputAfter}
 use Rattle.placelist.proofs.write_report.Statement.{statement}
 use Rattle.placelist.proofs.write_report.Tie as tie

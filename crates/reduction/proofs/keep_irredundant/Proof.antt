@@ -7,8 +7,8 @@ use mathlib.Core.Path.{_≡_, refl, sym, ap, _∙_}
 use mathlib.Core.Bool.{not}
 use lib.ListN.{length}
 use Rattle.foundation.proofs.laws.Members.{each-member, member-at}
-use Rattle.redundancy.specs.Cover.{Listable}
-use Rattle.redundancy.specs.Reduction.{redundant, reducedWords}
+use Rattle.reduction_spec.specs.Cover.{Listable}
+use Rattle.reduction_spec.specs.Reduction.{redundant, reducedWords}
 use Rattle.exact_cover.proofs.laws.KeptWords.{KeptSo, none-kept, drop-next, keep-next, all-kept}
 use Rattle.reduction.proofs.keep_irredundant.Statement.{statement}
 use Rattle.reduction.proofs.keep_irredundant.Tie as tie

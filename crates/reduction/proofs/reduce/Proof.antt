@@ -9,9 +9,9 @@ use borrow.Author.Needs.{needs}
 use borrow.Author.Tests.{lt-ltb, le-ltb}
 use Rattle.places.specs.Places.{wordsFault}
 use Rattle.places.proofs.laws.ListFaults.{all-valid}
-use Rattle.redundancy.specs.Cover.{Listable}
-use Rattle.redundancy.specs.declared.Reduced.the-variants.{Kept}
-use Rattle.redundancy.proofs.laws.Reducing.{reduced-kept, kept-written, invalid-refused, short-refused}
+use Rattle.reduction_spec.specs.Cover.{Listable}
+use Rattle.reduction_spec.specs.declared.Reduced.the-variants.{Kept}
+use Rattle.reduction_spec.proofs.laws.Reducing.{reduced-kept, kept-written, invalid-refused, short-refused}
 use Rattle.reduction.proofs.reduce.Statement.{statement}
 use Rattle.reduction.proofs.reduce.Tie as tie
 

@@ -8,10 +8,10 @@ use borrow.Author.Needs.{needs}
 use borrow.Author.Tests.{leb-true}
 use lib.Dec.{lit≤}
 use Rattle.limits.specs.Settings.{mostActivities, boundInRange, thresholdInRange}
-use Rattle.log_format.specs.Frames.{WrittenLog}
-use Rattle.log_format.specs.Lines.{framesOf}
-use Rattle.log_format.proofs.laws.Written.{bound-most}
-use Rattle.log_format.proofs.laws.WiderBound.{log-wider}
+use Rattle.event_log_spec.specs.Frames.{WrittenLog}
+use Rattle.event_log_spec.specs.Lines.{framesOf}
+use Rattle.event_log_spec.proofs.laws.Written.{bound-most}
+use Rattle.event_log_spec.proofs.laws.WiderBound.{log-wider}
 use Rattle.event_log.proofs.laws.FrameIndex.{stored-room, stored-index}
 use Rattle.replay.proofs.laws.Arguments.{Passed, accepted, judge-refused, judge-accepted}
 use Rattle.replay.proofs.laws.FrameByFrame.{verdict-counted, counts-bounded}

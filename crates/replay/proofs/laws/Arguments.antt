@@ -14,22 +14,22 @@ use Rattle.limits.specs.Refusals.{given, firstRefusal}
 use Rattle.limits.specs.Settings.{boundInRange, thresholdInRange, boundFault, boundAndThresholdFault}
 use Rattle.places.specs.declared.Place.{Place}
 use Rattle.places.specs.Places.{placeUnder, placeFault}
-use Rattle.log_format.specs.declared.Checked.the-variants.{Accepted, Refused}
-use Rattle.log_format.specs.Frames.{WrittenLog, totalCases}
-use Rattle.log_format.specs.Lines.{framesOf}
-use Rattle.log_format.specs.Checking.{emptyFault, logRefusal}
+use Rattle.event_log_spec.specs.declared.Checked.the-variants.{Accepted, Refused}
+use Rattle.event_log_spec.specs.Frames.{WrittenLog, totalCases}
+use Rattle.event_log_spec.specs.Lines.{framesOf}
+use Rattle.event_log_spec.specs.Checking.{emptyFault, logRefusal}
 use Rattle.event_log.specs.Pass.{linesChecked}
 use Rattle.limits.proofs.laws.FirstOf.{given-none}
-use Rattle.log_format.proofs.laws.LogChecks.{lines-decide, log-passes, answer-refused, answer-accepted}
-use Rattle.log_format.proofs.laws.Written.{text-written}
-use Rattle.balances.specs.declared.Judged.the-variants.{Counted}
-use Rattle.balances.specs.declared.Judged.the-variants as JudgedAs
-use Rattle.balances.specs.declared.Replayed.the-variants.{Balances}
-use Rattle.balances.specs.declared.Replayed.the-variants as ReplayedAs
-use Rattle.balances.specs.Balance.{leastBalance, lastBalance}
-use Rattle.balances.specs.Judgement.{caseCounts, verdict}
+use Rattle.event_log_spec.proofs.laws.LogChecks.{lines-decide, log-passes, answer-refused, answer-accepted}
+use Rattle.event_log_spec.proofs.laws.Written.{text-written}
+use Rattle.replay_spec.specs.declared.Judged.the-variants.{Counted}
+use Rattle.replay_spec.specs.declared.Judged.the-variants as JudgedAs
+use Rattle.replay_spec.specs.declared.Replayed.the-variants.{Balances}
+use Rattle.replay_spec.specs.declared.Replayed.the-variants as ReplayedAs
+use Rattle.replay_spec.specs.Balance.{leastBalance, lastBalance}
+use Rattle.replay_spec.specs.Judgement.{caseCounts, verdict}
 use Rattle.replay.specs.Replaying.{argumentsChecked}
-use Rattle.balances.specs.Answers.{firstTrace, replayed, judged}
+use Rattle.replay_spec.specs.Answers.{firstTrace, replayed, judged}
 
 module _ (A : ℕ) (in-range : Bool) (text : List ℕ) (p : Place) where
   pub setting-refused : in-range ≡ false → argumentsChecked A in-range text p ≡ Refused InvalidSetting

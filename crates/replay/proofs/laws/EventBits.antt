@@ -13,7 +13,7 @@ use mir.Val.{SFits, ofZ, toZ}
 use mir.ValLaws.{toZ-ofZ}
 use Rattle.foundation.proofs.laws.Differences.{mag-add, mag-sub}
 use Rattle.places.specs.Sets.{has}
-use Rattle.log_format.specs.Frames.{mostEvents}
+use Rattle.event_log_spec.specs.Frames.{mostEvents}
 use Rattle.replay.specs.declared.DigitSets.{DigitSets}
 use Rattle.replay.specs.declared.Tokens.{Tokens}
 use Rattle.replay.specs.Replaying.{afterDigit}

@@ -19,7 +19,7 @@ use Rattle.foundation.proofs.laws.Differences.{difference-add, difference-sub}
 use Rattle.places.specs.declared.Place.{Place}
 use Rattle.places.specs.Sets.{has}
 use Rattle.replay.specs.declared.Tokens.{Tokens}
-use Rattle.balances.specs.Balance.{count, balanceAt, smaller, leastOf, leastBalance, lastBalance}
+use Rattle.replay_spec.specs.Balance.{count, balanceAt, smaller, leastOf, leastBalance, lastBalance}
 use Rattle.replay.specs.Replaying.{afterEvent, afterTrace}
 
 -- before the first event

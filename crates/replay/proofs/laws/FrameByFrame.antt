@@ -12,13 +12,13 @@ use lib.Signed.{ltZ}
 use lib.ListN.{length}
 use Rattle.foundation.specs.Lists.{Each, each-nil, each-cons, foldl}
 use Rattle.places.specs.declared.Place.{Place}
-use Rattle.log_format.specs.Frames.{Frame, FrameUnder, WrittenLog, countDigits, totalCases}
-use Rattle.balances.specs.declared.CaseCounts.{CaseCounts}
+use Rattle.event_log_spec.specs.Frames.{Frame, FrameUnder, WrittenLog, countDigits, totalCases}
+use Rattle.replay_spec.specs.declared.CaseCounts.{CaseCounts}
 use Rattle.replay.specs.declared.Tokens.{Tokens}
-use Rattle.balances.specs.Balance.{underfeeds, overfeeds}
-use Rattle.balances.specs.Judgement.{casesWhere, caseCounts, casesOf, verdictOf, verdict}
+use Rattle.replay_spec.specs.Balance.{underfeeds, overfeeds}
+use Rattle.replay_spec.specs.Judgement.{casesWhere, caseCounts, casesOf, verdictOf, verdict}
 use Rattle.replay.specs.Replaying.{afterTrace, withCases}
-use Rattle.balances.proofs.laws.Counts.{casesWhere-sum, counts-add-up}
+use Rattle.replay_spec.proofs.laws.Counts.{casesWhere-sum, counts-add-up}
 
 -- no cases yet
 abbrev pub noCases : CaseCounts

@@ -15,13 +15,13 @@ use Rattle.foundation.proofs.laws.Lists.{each-head, each-tail}
 use Rattle.limits.specs.Settings.{mostActivities}
 use Rattle.places.specs.declared.Place.{Place}
 use Rattle.hex_digits.specs.Digits.{isDigit}
-use Rattle.log_format.specs.Frames.{Frame, FrameUnder, WrittenLog, countDigits, mostEvents, mostFrames, writeFrame, totalCases}
-use Rattle.log_format.specs.Lines.{framesOf}
+use Rattle.event_log_spec.specs.Frames.{Frame, FrameUnder, WrittenLog, countDigits, mostEvents, mostFrames, writeFrame, totalCases}
+use Rattle.event_log_spec.specs.Lines.{framesOf}
 use Rattle.event_log.specs.Stepping.{traceEnd, frameIndex}
-use Rattle.log_format.proofs.laws.PairLaws.{length-pairs, pairs-digits}
+use Rattle.event_log_spec.proofs.laws.PairLaws.{length-pairs, pairs-digits}
 use Rattle.event_log.proofs.laws.FrameAt.{frame-end, frame-part, frame-inside, frame-next}
-use Rattle.balances.specs.declared.CaseCounts.{CaseCounts}
-use Rattle.balances.specs.Judgement.{caseCounts, casesOf}
+use Rattle.replay_spec.specs.declared.CaseCounts.{CaseCounts}
+use Rattle.replay_spec.specs.Judgement.{caseCounts, casesOf}
 use Rattle.replay.specs.Replaying.{afterTrace, codesIn, withCases}
 use Rattle.replay.proofs.laws.CodeDigits.{codes-written}
 use Rattle.replay.proofs.laws.FrameByFrame.{noCases, withFrame, all-frames, cases-added, total-bounded}

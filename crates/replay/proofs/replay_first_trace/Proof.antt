@@ -6,10 +6,10 @@ use native.Mathlib.Omega.{arith}
 use mir.Syntax.{w16}
 use mir.ValLaws.{toZ-ofZ}
 use borrow.Author.Needs.{needs}
-use Rattle.log_format.proofs.laws.Written.{bound-most}
-use Rattle.log_format.proofs.laws.WiderBound.{log-wider}
+use Rattle.event_log_spec.proofs.laws.Written.{bound-most}
+use Rattle.event_log_spec.proofs.laws.WiderBound.{log-wider}
 use Rattle.limits.specs.Settings.{boundInRange}
-use Rattle.balances.specs.declared.Replayed.the-variants.{Balances}
+use Rattle.replay_spec.specs.declared.Replayed.the-variants.{Balances}
 use Rattle.replay.proofs.laws.Arguments.{Passed, accepted, replay-refused, replay-accepted}
 use Rattle.replay.proofs.laws.FirstFrame.{FirstDigits, first-digits}
 use Rattle.replay.proofs.replay_first_trace.Statement.{statement}

@@ -17,7 +17,7 @@ use Rattle.foundation.proofs.laws.Each.{all-each, each-all, each-append, all-at
 use Rattle.hex_digits.specs.Digits.{isDigit, digitValue, readHex, lineFeed}
 use Rattle.hex_digits.proofs.laws.PairNumbers.{four-digits}
 use Rattle.log_lines.proofs.laws.Counts.{four-from}
-use Rattle.report.specs.Program.{settingsMalformed}
+use Rattle.reporter_spec.specs.Program.{settingsMalformed}
 
 -- one element more passes
 pub all-next : (p : ℕ → Bool) (xs : List ℕ) (k : ℕ) → k < length xs → all p (take k xs) ≡ true → p (getD xs k 0) ≡ true

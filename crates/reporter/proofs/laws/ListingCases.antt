@@ -10,10 +10,10 @@ use lib.Dec.{eqb}
 use Rattle.foundation.proofs.laws.Booleans.{by-test, impossible}
 use Rattle.limits.specs.declared.Refusal.{Refusal}
 use Rattle.limits.specs.Refusals.{answer}
-use Rattle.candidate_search.specs.declared.Discovered.the-variants as Answered
-use Rattle.candidate_search.specs.declared.Run.{Run}
-use Rattle.redundancy.specs.declared.Reduced.{Reduced}
-use Rattle.redundancy.specs.Reduction.{reduced}
+use Rattle.discovery_spec.specs.declared.Discovered.the-variants as Answered
+use Rattle.discovery_spec.specs.declared.Run.{Run}
+use Rattle.reduction_spec.specs.declared.Reduced.{Reduced}
+use Rattle.reduction_spec.specs.Reduction.{reduced}
 use Rattle.listing.specs.declared.Listing.{Listing}
 use Rattle.listing.specs.declared.Listing.the-variants.{Refused, Incomplete, Complete}
 use Rattle.listing.specs.Listing.{foundIn, listingOf}

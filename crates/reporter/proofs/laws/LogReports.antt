@@ -9,10 +9,10 @@ use mathlib.Core.Option.{some}
 use lib.ListN.{length, take, length-take}
 use Rattle.limits.specs.declared.Refusal.{Refusal}
 use Rattle.limits.specs.declared.Settings.{Settings}
-use Rattle.candidate_search.specs.declared.Run.{Run}
-use Rattle.candidate_search.specs.Discovery.{run, runRefusal}
+use Rattle.discovery_spec.specs.declared.Run.{Run}
+use Rattle.discovery_spec.specs.Discovery.{run, runRefusal}
 use Rattle.writer.specs.Writing.{listText}
-use Rattle.report.specs.Program.{capacity, refusalLine}
+use Rattle.reporter_spec.specs.Program.{capacity, refusalLine}
 use Rattle.reporter.specs.Reporting.{runLine, logReport, mostOutput}
 use Rattle.reporter.proofs.laws.OutputRoom.{report-parts}
 use Rattle.reporter.proofs.laws.RunListed.{Reports, reported-fits}

@@ -17,12 +17,12 @@ use Rattle.limits.specs.declared.Settings.{Settings}
 use Rattle.limits.specs.Refusals.{answer}
 use Rattle.limits.proofs.laws.FirstOf.{only-one}
 use Rattle.hex_digits.proofs.laws.DigitLaws.{length-write}
-use Rattle.candidate_search.specs.declared.Run.{Run}
-use Rattle.candidate_search.specs.Search.{Progress}
-use Rattle.candidate_search.specs.Discovery.{run, summary, runRefusal}
+use Rattle.discovery_spec.specs.declared.Run.{Run}
+use Rattle.discovery_spec.specs.Search.{Progress}
+use Rattle.discovery_spec.specs.Discovery.{run, summary, runRefusal}
 use Rattle.writer.specs.Writing.{listText}
 use Rattle.writer.proofs.laws.PlaceLines.{length-text}
-use Rattle.report.specs.Program.{mostInput, capacity, settingsMalformed, settingsIn, logIn, programRefusal, refusalLine, resultLine, reportedWords, report, placelist}
+use Rattle.reporter_spec.specs.Program.{mostInput, capacity, settingsMalformed, settingsIn, logIn, programRefusal, refusalLine, resultLine, reportedWords, report, placelist}
 use Rattle.reporter.specs.Reporting.{runLine, logReport, mostOutput}
 use Rattle.reporter.proofs.laws.RunListed.{reported-fits}
 

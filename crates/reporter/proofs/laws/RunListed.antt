@@ -21,22 +21,22 @@ use Rattle.limits.specs.declared.Refusal.{Refusal}
 use Rattle.limits.specs.declared.Settings.{Settings}
 use Rattle.places.specs.Places.{placeOf}
 use Rattle.candidate_order.proofs.laws.CandidateOrder.{candidate-under}
-use Rattle.candidate_search.specs.declared.Run.{Run}
-use Rattle.candidate_search.specs.Search.{Capacity, Progress, endOf, stateOf}
-use Rattle.candidate_search.specs.Discovery.{run, summary, runRefusal, discovered, capacityOf, foundAfter}
-use Rattle.candidate_search.specs.TwoRuns.{foundBy, Completes, FoundAll}
-use Rattle.candidate_search.proofs.laws.AnswerLaws.{answer-within}
-use Rattle.candidate_search.proofs.laws.AnyTwoRuns.{two-runs}
-use Rattle.candidate_search.proofs.laws.CallChecks.{not-refused}
-use Rattle.redundancy.specs.declared.Reduced.{Reduced}
-use Rattle.redundancy.specs.declared.Reduced.the-variants as Reduction
-use Rattle.redundancy.specs.Cover.{Listable}
-use Rattle.redundancy.specs.Reduction.{redundant, reducedWords, reduced}
-use Rattle.redundancy.proofs.laws.Reducing.{reduced-kept, kept-taken}
+use Rattle.discovery_spec.specs.declared.Run.{Run}
+use Rattle.discovery_spec.specs.Search.{Capacity, Progress, endOf, stateOf}
+use Rattle.discovery_spec.specs.Discovery.{run, summary, runRefusal, discovered, capacityOf, foundAfter}
+use Rattle.discovery_spec.specs.TwoRuns.{foundBy, Completes, FoundAll}
+use Rattle.discovery_spec.proofs.laws.AnswerLaws.{answer-within}
+use Rattle.discovery_spec.proofs.laws.AnyTwoRuns.{two-runs}
+use Rattle.discovery_spec.proofs.laws.CallChecks.{not-refused}
+use Rattle.reduction_spec.specs.declared.Reduced.{Reduced}
+use Rattle.reduction_spec.specs.declared.Reduced.the-variants as Reduction
+use Rattle.reduction_spec.specs.Cover.{Listable}
+use Rattle.reduction_spec.specs.Reduction.{redundant, reducedWords, reduced}
+use Rattle.reduction_spec.proofs.laws.Reducing.{reduced-kept, kept-taken}
 use Rattle.listing.specs.declared.Listing.{Listing}
 use Rattle.listing.specs.declared.Listing.the-variants.{Refused, Incomplete, Complete}
 use Rattle.listing.specs.Listing.{Resources, foundIn, keptOf, searched, foundLeft, keptLeft, listing, GoesAsWritten}
-use Rattle.report.specs.Program.{reportedWords}
+use Rattle.reporter_spec.specs.Program.{reportedWords}
 use Rattle.reporter.proofs.laws.ListingCases.{Completed, was-refused, was-incomplete, was-complete}
 
 few-reduced : (words : List ℕ) → length (reducedWords words) ≤ length words

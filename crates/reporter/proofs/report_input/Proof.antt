@@ -11,7 +11,7 @@ use mathlib.Core.List.{List}
 use lib.ListN.{length, drop, length-drop}
 use lib.Seq.{take-all}
 use Rattle.foundation.specs.Buffers.{overwrite}
-use Rattle.report.specs.Program.{settingsMalformed, logIn}
+use Rattle.reporter_spec.specs.Program.{settingsMalformed, logIn}
 use Rattle.reporter.specs.Reporting.{logReport}
 use Rattle.reporter.proofs.laws.FrameLaws.{frame-long}
 use Rattle.reporter.proofs.laws.OutputRoom.{too-large, frame-malformed, log-decides}

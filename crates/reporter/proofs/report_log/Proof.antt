@@ -7,10 +7,10 @@ use native.Mathlib.Nat.{le-refl}
 use native.Mathlib.Omega.{arith}
 use mathlib.Core.Path.{_≡_, ap, _∙_}
 use lib.ListN.{length, replicate, length-take}
-use Rattle.candidate_search.specs.Discovery.{capacityOf}
+use Rattle.discovery_spec.specs.Discovery.{capacityOf}
 use Rattle.listing.specs.declared.Listing.the-variants.{Complete}
 use Rattle.listing.specs.Listing.{Resources, resourcesOf, GoesAsWritten}
-use Rattle.report.specs.Program.{capacity}
+use Rattle.reporter_spec.specs.Program.{capacity}
 use Rattle.reporter.proofs.laws.RunListed.{Reports, listing-refused, listing-stopped, listing-completed, reduction-passes}
 use Rattle.reporter.proofs.laws.LogReports.{refused-report, run-report, count-fits, words-fit}
 use Rattle.reporter.proofs.report_log.Statement.{statement}

@@ -1,7 +1,7 @@
 -- `discovery::cache::place_in` meets its contract: the mark is above what the place takes of the word.
 -- Assumes nothing.
 use borrow.Author.Needs.{needs}
-use Rattle.candidate_search.specs.Rejected.{placeIn}
+use Rattle.discovery_spec.specs.Rejected.{placeIn}
 use Rattle.discovery.proofs.cache.place_in.Statement.{statement}
 use Rattle.discovery.proofs.cache.place_in.Tie as tie
 

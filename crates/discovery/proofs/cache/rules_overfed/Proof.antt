@@ -2,7 +2,7 @@
 -- Assumes nothing.
 use mathlib.Core.Path.{sym, _∙_}
 use borrow.Author.Needs.{needs}
-use Rattle.candidate_search.specs.Rejected.{rulesOverfed}
+use Rattle.discovery_spec.specs.Rejected.{rulesOverfed}
 use Rattle.discovery.proofs.cache.rules_overfed.Statement.{statement}
 use Rattle.discovery.proofs.cache.rules_overfed.Tie as tie
 

@@ -2,7 +2,7 @@
 -- Assumes nothing.
 use mathlib.Core.Path.{sym, _∙_}
 use borrow.Author.Needs.{needs}
-use Rattle.candidate_search.specs.Rejected.{rulesUnderfed}
+use Rattle.discovery_spec.specs.Rejected.{rulesUnderfed}
 use Rattle.discovery.proofs.cache.rules_underfed.Statement.{statement}
 use Rattle.discovery.proofs.cache.rules_underfed.Tie as tie
 

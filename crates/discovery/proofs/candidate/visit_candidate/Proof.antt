@@ -4,8 +4,8 @@ use native.Mathlib.Nat.{sub-zero}
 use native.Mathlib.Omega.{arith}
 use mathlib.Core.Path.{_≡_, refl, sym, _∙_}
 use borrow.Author.Needs.{needs}
-use Rattle.log_format.specs.Lines.{framesOf}
-use Rattle.balances.specs.Judgement.{verdict}
+use Rattle.event_log_spec.specs.Lines.{framesOf}
+use Rattle.replay_spec.specs.Judgement.{verdict}
 use Rattle.discovery.specs.declared.Ruling.the-variants.{AsUnderfed, AsOverfed}
 use Rattle.discovery.specs.Rulings.{rulingOf}
 use Rattle.discovery.specs.Standing.{stateIn}

@@ -7,8 +7,8 @@ use mathlib.Core.Logic.{inr}
 use lib.ListN.{length}
 use Rattle.places.specs.Candidates.{sets}
 use Rattle.places.specs.Succession.{from, candidatesFrom}
-use Rattle.log_format.specs.Lines.{framesOf}
-use Rattle.balances.specs.Judgement.{verdict}
+use Rattle.event_log_spec.specs.Lines.{framesOf}
+use Rattle.replay_spec.specs.Judgement.{verdict}
 use Rattle.discovery.proofs.laws.Onward.{reached-start}
 use Rattle.discovery.proofs.laws.OutputsLeft.{placesFrom, OutputsLeft, Ranges, outputs-done, this-row, row-countable, fewer-rows, outputs-stop, outputs-on}
 use Rattle.discovery.proofs.search.search_from.Statement.{statement}

@@ -5,8 +5,8 @@ use native.Mathlib.Omega.{arith}
 use mathlib.Core.Path.{_∙_}
 use mathlib.Core.Logic.{inr}
 use lib.ListN.{length, length-map}
-use Rattle.log_format.specs.Lines.{framesOf}
-use Rattle.balances.specs.Judgement.{verdict}
+use Rattle.event_log_spec.specs.Lines.{framesOf}
+use Rattle.replay_spec.specs.Judgement.{verdict}
 use Rattle.discovery.specs.Standing.{Searchable}
 use Rattle.discovery.proofs.laws.Onward.{reached-start}
 use Rattle.discovery.proofs.laws.InputsLeft.{inputsFrom, InputsLeft, inputs-done, this-set, one-more, fewer-left, inputs-stop, inputs-on}

@@ -6,8 +6,8 @@ use native.Mathlib.Omega.{arith}
 use mathlib.Core.Path.{_≡_, refl, _∙_}
 use borrow.Author.Needs.{needs}
 use lib.ListN.{length, length-set}
-use Rattle.log_format.specs.Frames.{mostFrames}
-use Rattle.log_format.specs.Lines.{framesOf}
+use Rattle.event_log_spec.specs.Frames.{mostFrames}
+use Rattle.event_log_spec.specs.Lines.{framesOf}
 use Rattle.event_log.proofs.laws.FrameIndex.{SomeStored, Turn, none-stored, turn, all-stored}
 use Rattle.event_log.proofs.frame.index_frames.Statement.{statement}
 use Rattle.event_log.proofs.frame.index_frames.Tie as tie

@@ -7,8 +7,8 @@ use mathlib.Core.Path.{_≡_, sym, _∙_}
 use borrow.Author.Needs.{needs}
 use borrow.Author.Tests.{not-true}
 use Rattle.exact_cover.specs.Choosing.{Chosen}
-use Rattle.redundancy.proofs.laws.Parts.{part-le}
-use Rattle.redundancy.proofs.laws.Balance.{unbalanced}
+use Rattle.reduction_spec.proofs.laws.Parts.{part-le}
+use Rattle.reduction_spec.proofs.laws.Balance.{unbalanced}
 use Rattle.exact_cover.proofs.laws.Rarity.{twice-part, thrice-part, no-cover, single, double, coverable}
 use Rattle.exact_cover.proofs.activity.choose.Statement.{statement}
 use Rattle.exact_cover.proofs.activity.choose.Tie as tie

@@ -7,7 +7,7 @@ use mathlib.Core.Path.{sym, _∙_}
 use borrow.Author.Needs.{needs}
 use borrow.Author.Tests.{not-true, not-false}
 use lib.ListN.{length}
-use Rattle.redundancy.specs.Cover.{usable, partsOf}
+use Rattle.reduction_spec.specs.Cover.{usable, partsOf}
 use Rattle.exact_cover.specs.Gathering.{GatheredAs}
 use Rattle.exact_cover.proofs.laws.KeptWords.{KeptSo, none-kept, drop-next, keep-next, no-room, all-kept}
 use Rattle.exact_cover.proofs.parts.gather.Statement.{statement}

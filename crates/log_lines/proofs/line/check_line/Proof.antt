@@ -7,9 +7,9 @@ use native.Mathlib.Omega.{arith}
 use borrow.Author.Needs.{needs}
 use lib.ListN.{drop, length-drop}
 use lib.Seq.{drop-drop}
-use Rattle.log_format.specs.Frames.{mostFrames}
-use Rattle.log_format.specs.Lines.{firstLine}
-use Rattle.log_format.proofs.laws.LineFaults.{Readable, index-large, line-malformed, trace-long, code-unknown, endpoint-misplaced, no-fault}
+use Rattle.event_log_spec.specs.Frames.{mostFrames}
+use Rattle.event_log_spec.specs.Lines.{firstLine}
+use Rattle.event_log_spec.proofs.laws.LineFaults.{Readable, index-large, line-malformed, trace-long, code-unknown, endpoint-misplaced, no-fault}
 use Rattle.log_lines.proofs.laws.LineShape.{first-fits, Counted, counted, no-count, LineShape, no-activities, line-shape, shape-short, shape-formed, shape-long, shape-fits, faulty, sound}
 use Rattle.log_lines.proofs.line.check_line.Statement.{statement}
 use Rattle.log_lines.proofs.line.check_line.Tie as tie

@@ -2,7 +2,7 @@
 -- Assumes nothing.
 use borrow.Author.Needs.{needs}
 use Rattle.foundation.proofs.laws.Booleans.{same-truth}
-use Rattle.redundancy.proofs.laws.UnionTests.{redundant-cover}
+use Rattle.reduction_spec.proofs.laws.UnionTests.{redundant-cover}
 use Rattle.reduction.proofs.union.is_redundant.Statement.{statement}
 use Rattle.reduction.proofs.union.is_redundant.Tie as tie
 

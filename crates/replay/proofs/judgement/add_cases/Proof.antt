@@ -1,6 +1,6 @@
 -- `replay::judgement::add_cases` meets its contract: the signs of the two balances, read back from their bits, are those of the definition.
 -- Assumes nothing.
-use mathlib.Core.Path.{_≡_, sym, _∙_}
+use mathlib.Core.Path.{_≡_}
 use lib.IntN.{ℤ, pos}
 use lib.Signed.{ltZ}
 use mir.Syntax.{w16}

@@ -4,7 +4,7 @@ use native.Mathlib.Nat.{mul-le-mul-right}
 use native.Mathlib.Omega.{arith}
 use mathlib.Core.Path.{refl}
 use borrow.Author.Needs.{needs}
-use Rattle.balances.specs.Judgement.{exceeds}
+use Rattle.replay_spec.specs.Judgement.{exceeds}
 use Rattle.replay.proofs.judgement.share_exceeds.Statement.{statement}
 use Rattle.replay.proofs.judgement.share_exceeds.Tie as tie
 

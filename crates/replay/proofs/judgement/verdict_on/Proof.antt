@@ -2,7 +2,7 @@
 -- Assumes nothing.
 use mathlib.Core.Path.{_≡_, sym, ap₂, _∙_}
 use borrow.Author.Needs.{needs}
-use Rattle.balances.specs.Judgement.{casesOf, underfedCases, overfedCases, verdictWhere, verdictOf}
+use Rattle.replay_spec.specs.Judgement.{casesOf, underfedCases, overfedCases, verdictWhere, verdictOf}
 use Rattle.replay.proofs.judgement.verdict_on.Statement.{statement}
 use Rattle.replay.proofs.judgement.verdict_on.Tie as tie
 

@@ -5,7 +5,7 @@ use native.Mathlib.Omega.{arith}
 use mathlib.Core.Path.{sym, ap, _∙_}
 use lib.ListN.{length}
 use Rattle.limits.specs.Refusals.{number, value}
-use Rattle.report.specs.Program.{refusalLine}
+use Rattle.reporter_spec.specs.Program.{refusalLine}
 use Rattle.reporter.proofs.laws.LineParts.{overwrite-length, line-put}
 use Rattle.reporter.proofs.laws.OutputRoom.{length-refusal}
 use Rattle.reporter.proofs.lines.write_refusal.Statement.{statement}

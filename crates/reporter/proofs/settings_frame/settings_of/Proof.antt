@@ -6,7 +6,7 @@ use mathlib.Core.Path.{_≡_}
 use mathlib.Core.List.{List}
 use lib.ListN.{take, drop}
 use Rattle.hex_digits.specs.Digits.{readHex}
-use Rattle.report.specs.Program.{settingsIn}
+use Rattle.reporter_spec.specs.Program.{settingsIn}
 use Rattle.reporter.proofs.laws.FrameLaws.{four-number}
 use Rattle.reporter.proofs.settings_frame.settings_of.Statement.{statement}
 use Rattle.reporter.proofs.settings_frame.settings_of.Tie as tie

@@ -1,0 +1,82 @@
+-- The checks of a call on a log: nothing is refused exactly when its settings and its place pass, the text has a byte, and no line has a
+-- fault; where all but the lines pass, the lines decide. Checking a log takes A alone, so its settings pass when A is in its range.
+-- Assumes nothing.
+use Prim.Native.Nat.{ℕ, _≤_}
+use native.Mathlib.Omega.{arith}
+use mathlib.Core.Path.{_≡_, refl}
+use mathlib.Core.Logic.{_↔_}
+use mathlib.Core.Bool.{true, false, not}
+use mathlib.Core.List.{List, [], _∷_}
+use mathlib.Core.Option.{Option, none, some}
+use borrow.Author.Tests.{eqb-false, ne-eqb, not-false}
+use lib.Dec.{eqb}
+use lib.ListN.{length}
+use Rattle.foundation.proofs.laws.Booleans.{impossible}
+use Rattle.limits.specs.declared.Refusal.{Refusal}
+use Rattle.limits.specs.declared.Refusal.the-variants.{InvalidSetting, EmptyLog}
+use Rattle.limits.specs.Refusals.{firstRefusal, answer}
+use Rattle.limits.specs.Settings.{boundInRange, boundFault}
+use Rattle.event_log_spec.specs.declared.Checked.the-variants.{Accepted, Refused}
+use Rattle.event_log_spec.specs.Checking.{emptyFault, textFault, logRefusal, checked}
+use Rattle.limits.proofs.laws.FirstOf.{given-none, only-one, first-none}
+
+pub bound-passes : (A : ℕ) → (boundFault A ≡ none) ↔ (boundInRange A ≡ true)
+unfolding boundFault
+bound-passes A = (λ e. not-false (boundInRange A) (given-none (not (boundInRange A)) InvalidSetting e), λ e. rw e)
+
+some-byte-passes : (text : List ℕ) → (emptyFault text ≡ none) ↔ (1 ≤ length text)
+unfolding emptyFault
+some-byte-passes text = (
+  λ e. let h : length text ≡ 0 → ⊥ = eqb-false (length text) 0 (given-none (eqb (length text) 0) EmptyLog e) in omega arith,
+  λ h. rw (ne-eqb (length text) 0 (λ z. omega arith)),
+)
+
+-- nothing is refused
+pub record LogPasses (settings places : Option Refusal) (A : ℕ) (text : List ℕ) : Type 0 where
+  pub settings-pass : settings ≡ none
+  pub places-pass : places ≡ none
+  pub some-byte : 1 ≤ length text
+  pub lines-pass : textFault A text ≡ none
+
+module _ (A : ℕ) (text : List ℕ) where
+  pub lines-decide : 1 ≤ length text → logRefusal none none A text ≡ textFault A text
+  unfolding logRefusal firstRefusal
+  lines-decide some-byte = rw (some-byte-passes text .1 some-byte) (only-one (textFault A text))
+
+  module _ (settings places : Option Refusal) where
+    passes : logRefusal settings places A text ≡ none → LogPasses settings places A text
+    unfolding logRefusal firstRefusal
+    passes e =
+        let parts₁ = first-none settings (places ∷ none ∷ emptyFault text ∷ textFault A text ∷ []) e in
+        let parts₂ = first-none places (none ∷ emptyFault text ∷ textFault A text ∷ []) (parts₁ .1) in
+        let parts₃ = first-none (emptyFault text) (textFault A text ∷ []) (parts₂ .1) in
+        record {
+          settings-pass = parts₁ .0;
+          places-pass = parts₂ .0;
+          some-byte = some-byte-passes text .0 (parts₃ .0);
+          lines-pass = first-none (textFault A text) [] (parts₃ .1) .0;
+        }
+
+    pub log-passes : (logRefusal settings places A text ≡ none) ↔ LogPasses settings places A text
+    log-passes = (passes, λ p. rw (p .settings-pass, p .places-pass, lines-decide (p .some-byte)) (p .lines-pass))
+
+-- what checking a log answers, by the checks before those of its lines
+module _ (A : ℕ) (text : List ℕ) where
+  pub bound-refused : boundInRange A ≡ false → checked A text ≡ Refused InvalidSetting
+  unfolding checked boundFault logRefusal firstRefusal
+  bound-refused e = rw e
+
+  module _ (in-range : boundInRange A ≡ true) where
+    pub empty-refused : length text ≡ 0 → checked A text ≡ Refused EmptyLog
+    unfolding checked boundFault logRefusal firstRefusal emptyFault
+    empty-refused e = rw (in-range, e)
+
+-- a check answers with a refusal exactly when it was given it, and accepts only where it was given none
+pub answer-refused : (o : Option Refusal) (n N : ℕ) (r : Refusal) → (answer Refused o (Accepted n N) ≡ Refused r) ↔ (o ≡ some r)
+answer-refused none n N r = (λ e. impossible (cc), λ e. impossible (cc))
+answer-refused (some s) n N r = (λ e. cc, λ e. cc)
+
+pub answer-accepted : (o : Option Refusal) (n N m M : ℕ) → answer Refused o (Accepted n N) ≡ Accepted m M
+    → (o ≡ none) × (Accepted n N ≡ Accepted m M)
+answer-accepted none n N m M e = (refl, e)
+answer-accepted (some s) n N m M e = impossible (cc)

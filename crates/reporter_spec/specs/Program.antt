@@ -1,0 +1,74 @@
+-- The program placelist, from the bytes that it reads to the bytes that it writes. Document 01, "Thinning and writing", last paragraph.
+-- Assumes nothing.
+use Prim.Native.Nat.{ℕ}
+use mathlib.Core.Bool.{Bool, not, cond, _&&_}
+use mathlib.Core.List.{List, [], _∷_, _++_}
+use mathlib.Core.Option.{Option}
+use lib.Dec.{eqb, ltb}
+use lib.ListN.{length, getD, take, drop}
+use Rattle.foundation.specs.Lists.{all}
+use Rattle.limits.specs.declared.Refusal.{Refusal}
+use Rattle.limits.specs.declared.Refusal.the-variants.{InvalidSetting, TooLarge}
+use Rattle.limits.specs.declared.Settings.{Settings}
+use Rattle.limits.specs.Refusals.{number, value, given, firstOf, answer}
+use Rattle.hex_digits.specs.Digits.{isDigit, readHex, writeHex, lineFeed}
+use Rattle.discovery_spec.specs.Search.{Capacity, holding, Progress, endOf, stateOf}
+use Rattle.discovery_spec.specs.Discovery.{run, runRefusal}
+use Rattle.reduction_spec.specs.Reduction.{reducedWords}
+use Rattle.writer.specs.Writing.{listText}
+
+-- the most bytes that it reads
+abbrev pub mostInput : ℕ
+mostInput = 65536
+
+-- what it gives its run: cache, list and replay budget
+unfoldable pub capacity : Capacity
+capacity = holding 1024 4096 1000000
+
+-- the settings frame, the first line: two digits each of A, mi and mo, four of T, a line feed
+unfoldable pub settingsMalformed : List ℕ → Bool
+settingsMalformed input = not (all isDigit (take 10 input) && eqb (getD input 10 0) lineFeed)
+
+-- the settings that it writes
+unfoldable pub settingsIn : List ℕ → Settings
+settingsIn input =
+    record {
+      activities = readHex (take 2 input);
+      inputs = readHex (take 2 (drop 2 input));
+      outputs = readHex (take 2 (drop 4 input));
+      threshold = readHex (take 4 (drop 6 input));
+    }
+
+-- the log is what follows it
+unfoldable pub logIn : List ℕ → List ℕ
+logIn input = drop 11 input
+
+-- first an input that is too long (oversize, line 0), then the form of the settings frame (number 1), then what the search refuses
+unfoldable pub programRefusal : List ℕ → Option Refusal
+programRefusal input =
+    firstOf
+    (given (ltb mostInput (length input)) (TooLarge 0)
+    ∷ given (settingsMalformed input) InvalidSetting
+    ∷ runRefusal (settingsIn input) (logIn input)
+    ∷ [])
+
+-- the line of a refusal: FF, its number, and the line or other value beside it
+unfoldable pub refusalLine : Refusal → List ℕ
+refusalLine r = writeHex 2 0xFF ++ writeHex 2 (number r) ++ writeHex 8 (value r) ++ (lineFeed ∷ [])
+
+-- the last line: the end, the replays, the visits
+unfoldable pub resultLine : Progress → List ℕ
+resultLine p =
+    writeHex 2 (endOf p) ++ writeHex 8 (stateOf p .replays) ++ writeHex 8 (stateOf p .visits) ++ (lineFeed ∷ [])
+
+-- the list that it writes: reduced if the run completed, as found otherwise
+unfoldable pub reportedWords : Progress → List ℕ
+reportedWords p = cond (eqb (endOf p) 0) (reducedWords (stateOf p .found)) (stateOf p .found)
+
+-- the list, then the last line
+unfoldable pub report : Progress → List ℕ
+report p = listText (reportedWords p) ++ resultLine p
+
+-- all that placelist writes for what it reads
+unfoldable pub placelist : List ℕ → List ℕ
+placelist input = answer refusalLine (programRefusal input) (report (run (settingsIn input) (logIn input) capacity))
