@@ -3,38 +3,35 @@
 use Prim.Native.Nat.{ℕ}
 use mathlib.Core.Path.{_≡_, refl}
 use mathlib.Core.List.{List, [], _∷_, map}
-use mathlib.Core.Option.{Option}
 use lib.IntN.{pos, negsuc}
 use Rattle.foundation.specs.Text.{bytes}
-use Rattle.limits.specs.declared.Refusal.{Refusal}
 use Rattle.replay_spec.specs.declared.Replayed.{Replayed}
 use Rattle.replay_spec.specs.declared.Judged.{Judged}
 use Rattle.discovery_spec.specs.declared.Discovered.{Discovered}
 use Rattle.reduction_spec.specs.declared.Reduced.{Reduced}
 use Rattle.writer.specs.declared.Written.{Written}
 use Rattle.places.specs.Places.{place, word}
-use Rattle.event_log_spec.specs.Checking.{checked}
-use Rattle.replay_spec.specs.Answers.{replayed, judged}
+use Rattle.event_log_spec.specs.Checking.{checked, checkedNumber, checkedValue}
+use Rattle.replay_spec.specs.Answers.{replayed, judged, replayedNumber, replayedValue, judgedNumber, judgedValue}
 use Rattle.discovery_spec.specs.Search.{holding}
-use Rattle.discovery_spec.specs.Discovery.{discovered}
-use Rattle.reduction_spec.specs.Reduction.{reduced}
-use Rattle.writer.specs.Writing.{written}
+use Rattle.discovery_spec.specs.Discovery.{discovered, discoveredNumber, discoveredValue}
+use Rattle.reduction_spec.specs.Reduction.{reduced, reducedNumber, reducedValue}
+use Rattle.writer.specs.Writing.{written, writtenNumber, writtenValue}
 use Rattle.reporter.specs.Reporting.{reported}
 use Rattle.capi.specs.Settings.{settingsOf}
-use Rattle.capi.specs.Refused.{numberGiven, valueGiven, refusalInChecked, refusalInReplayed, refusalInJudged, refusalInDiscovered, refusalInReduced, refusalInWritten}
 use Rattle.capi.specs.Results.{sizesAfter, leastAfter, lastAfter, countsAfter, verdictAfter, runAfter, keptCountAfter, byteCountAfter}
 use Rattle.capi.proofs.Opened.{opened}
 
 -- the number that a call answers, then the value beside it
-abbrev said : Option Refusal → List ℕ
-said refusal = numberGiven refusal ∷ valueGiven refusal ∷ []
+abbrev said : {X : Type 0} → (X → ℕ) → (X → ℕ) → X → List ℕ
+said number value answer = number answer ∷ value answer ∷ []
 
 -- two cases go by 2, and one by 3
 abbrev log : List ℕ
 log = bytes "0002000201\n0001000301\n"
 
 abbrev checking : ℕ → List ℕ
-checking A = said (refusalInChecked (checked A log))
+checking A = said checkedNumber checkedValue (checked A log)
 
 -- 2 puts a token in too late for 0, which takes one out
 abbrev late : Replayed
@@ -67,36 +64,36 @@ pub record Examples : Type 0 where
   -- the second line names an activity that three do not have
   pub check-refused : checking 3 ≡ 3 ∷ 1 ∷ []
   pub sizes-as-found : sizesAfter (checked 3 log) (7 ∷ 8 ∷ []) ≡ 7 ∷ 8 ∷ []
-  pub replays : said (refusalInReplayed late) ≡ 0 ∷ 0 ∷ []
+  pub replays : said replayedNumber replayedValue late ≡ 0 ∷ 0 ∷ []
   pub least : leastAfter late (pos 7) ≡ negsuc 0
   pub last : lastAfter late (pos 7) ≡ pos 0
-  pub replay-refused : said (refusalInReplayed noPlace) ≡ 7 ∷ 0 ∷ []
+  pub replay-refused : said replayedNumber replayedValue noPlace ≡ 7 ∷ 0 ∷ []
   pub least-as-found : leastAfter noPlace (pos 7) ≡ pos 7
   pub last-as-found : lastAfter noPlace (pos 7) ≡ pos 7
-  pub judges : said (refusalInJudged (judging 333)) ≡ 0 ∷ 0 ∷ []
+  pub judges : said judgedNumber judgedValue (judging 333) ≡ 0 ∷ 0 ∷ []
   pub counts : countsAfter (judging 333) (7 ∷ 7 ∷ 8 ∷ 8 ∷ []) ≡ 2 ∷ 1 ∷ 0 ∷ 0 ∷ []
   pub verdicts : map (λ (T : ℕ). verdictAfter (judging T) 9) (333 ∷ 334 ∷ 1001 ∷ []) ≡ 1 ∷ 0 ∷ 9 ∷ []
-  pub judge-refused : said (refusalInJudged (judging 1001)) ≡ 1 ∷ 0 ∷ []
+  pub judge-refused : said judgedNumber judgedValue (judging 1001) ≡ 1 ∷ 0 ∷ []
   pub counts-as-found : countsAfter (judging 1001) (7 ∷ 7 ∷ 8 ∷ 8 ∷ []) ≡ 7 ∷ 7 ∷ 8 ∷ 8 ∷ []
-  pub searches : said (refusalInDiscovered (searching 3)) ≡ 0 ∷ 0 ∷ []
+  pub searches : said discoveredNumber discoveredValue (searching 3) ≡ 0 ∷ 0 ∷ []
   pub run : runAfter (searching 3) (7 ∷ 7 ∷ 8 ∷ 8 ∷ 9 ∷ []) ≡ 0 ∷ 3 ∷ 9 ∷ 12 ∷ 15 ∷ []
-  pub search-refused : said (refusalInDiscovered (searching 2)) ≡ 1 ∷ 0 ∷ []
+  pub search-refused : said discoveredNumber discoveredValue (searching 2) ≡ 1 ∷ 0 ∷ []
   pub run-as-found : runAfter (searching 2) (7 ∷ 7 ∷ 8 ∷ 8 ∷ 9 ∷ []) ≡ 7 ∷ 7 ∷ 8 ∷ 8 ∷ 9 ∷ []
-  pub reduces : said (refusalInReduced (reducing 3)) ≡ 0 ∷ 0 ∷ []
+  pub reduces : said reducedNumber reducedValue (reducing 3) ≡ 0 ∷ 0 ∷ []
   pub kept : keptCountAfter (reducing 3) 7 ≡ 2
-  pub reduce-refused : said (refusalInReduced (reducing 2)) ≡ 8 ∷ 0 ∷ []
+  pub reduce-refused : said reducedNumber reducedValue (reducing 2) ≡ 8 ∷ 0 ∷ []
   pub kept-as-found : keptCountAfter (reducing 2) 7 ≡ 7
-  pub no-place-in-list : said (refusalInReduced (reduced (word (place 1 2) ∷ 5 ∷ []) 2)) ≡ 7 ∷ 1 ∷ []
-  pub writes : said (refusalInWritten (writing 18)) ≡ 0 ∷ 0 ∷ []
+  pub no-place-in-list : said reducedNumber reducedValue (reduced (word (place 1 2) ∷ 5 ∷ []) 2) ≡ 7 ∷ 1 ∷ []
+  pub writes : said writtenNumber writtenValue (writing 18) ≡ 0 ∷ 0 ∷ []
   pub bytes-written : byteCountAfter (writing 18) 7 ≡ 18
-  pub write-refused : said (refusalInWritten (writing 17)) ≡ 8 ∷ 0 ∷ []
+  pub write-refused : said writtenNumber writtenValue (writing 17) ≡ 8 ∷ 0 ∷ []
   pub bytes-as-found : byteCountAfter (writing 17) 7 ≡ 7
-  pub reports : said (refusalInWritten (reporting 36883)) ≡ 0 ∷ 0 ∷ []
+  pub reports : said writtenNumber writtenValue (reporting 36883) ≡ 0 ∷ 0 ∷ []
   pub bytes-reported : byteCountAfter (reporting 36883) 7 ≡ 46
   -- what is written is a refusal's line, and the call is not refused
-  pub reports-refusal : said (refusalInWritten (reported [] 36883)) ≡ 0 ∷ 0 ∷ []
+  pub reports-refusal : said writtenNumber writtenValue (reported [] 36883) ≡ 0 ∷ 0 ∷ []
   pub refusal-written : byteCountAfter (reported [] 36883) 7 ≡ 13
-  pub report-refused : said (refusalInWritten (reporting 36882)) ≡ 8 ∷ 0 ∷ []
+  pub report-refused : said writtenNumber writtenValue (reporting 36882) ≡ 8 ∷ 0 ∷ []
   pub report-as-found : byteCountAfter (reporting 36882) 7 ≡ 7
 
 pub examples : Examples

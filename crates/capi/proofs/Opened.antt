@@ -2,9 +2,8 @@
 -- Assumes nothing.
 use Rattle.reporter_spec.proofs.Opened.{opened as opened-report}
 use Rattle.reporter.specs.Reporting.{runLine, logReport, reportingRefusal, reported, outputAfter}
-use Rattle.capi.specs.Refused.{numberGiven, valueGiven, refusalInChecked, refusalInReplayed, refusalInJudged, refusalInDiscovered, refusalInReduced, refusalInWritten}
 use Rattle.capi.specs.Results.{sizesAfter, leastAfter, lastAfter, countsAfter, verdictAfter, runAfter, keptCountAfter, byteCountAfter}
 
 unfoldable pub opened : Unit {0}
-unfolding numberGiven valueGiven refusalInChecked refusalInReplayed refusalInJudged refusalInDiscovered refusalInReduced refusalInWritten sizesAfter leastAfter lastAfter countsAfter verdictAfter runAfter keptCountAfter byteCountAfter runLine logReport reportingRefusal reported outputAfter opened-report
+unfolding sizesAfter leastAfter lastAfter countsAfter verdictAfter runAfter keptCountAfter byteCountAfter runLine logReport reportingRefusal reported outputAfter opened-report
 opened = tt

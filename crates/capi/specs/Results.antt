@@ -11,7 +11,7 @@ use Rattle.replay_spec.specs.declared.Judged.{Judged}
 use Rattle.replay_spec.specs.declared.Judged.the-variants as JudgedAs
 use Rattle.discovery_spec.specs.declared.Discovered.{Discovered}
 use Rattle.discovery_spec.specs.declared.Discovered.the-variants as DiscoveredAs
-use Rattle.discovery_spec.specs.Rejected.{mark}
+use Rattle.replay_spec.specs.Judgement.{mark}
 use Rattle.reduction_spec.specs.declared.Reduced.{Reduced}
 use Rattle.reduction_spec.specs.declared.Reduced.the-variants as ReducedAs
 use Rattle.writer.specs.declared.Written.{Written}

@@ -6,19 +6,16 @@ ghost use lib.ListN.{length};
 ghost use Rattle.limits.specs.Refusals.{number};
 ghost use Rattle.limits.specs.Refusals.{value as valueOf};
 ghost use Rattle.places.specs.Places.{place};
-ghost use Rattle.event_log_spec.specs.Checking.{checked};
-ghost use Rattle.replay_spec.specs.Answers.{replayed, judged};
-ghost use Rattle.discovery_spec.specs.Discovery.{discovered, capacityOf, foundAfter, rejectedAfter};
-ghost use Rattle.reduction_spec.specs.Reduction.{reduced, reducedAfter};
-ghost use Rattle.writer.specs.Writing.{written, writtenAfter};
+ghost use Rattle.event_log_spec.specs.Checking.{checked, checkedNumber, checkedValue};
+ghost use Rattle.replay_spec.specs.Answers.{replayed, judged, replayedNumber, replayedValue, judgedNumber, judgedValue};
+ghost use Rattle.discovery_spec.specs.Discovery.{discovered, discoveredNumber, discoveredValue, capacityOf, foundAfter, rejectedAfter};
+ghost use Rattle.reduction_spec.specs.Reduction.{reduced, reducedNumber, reducedValue, reducedAfter};
+ghost use Rattle.writer.specs.Writing.{written, writtenNumber, writtenValue, writtenAfter};
 ghost use Rattle.reporter.specs.Reporting.{reported, outputAfter};
 ghost use Rattle.capi.specs.Settings.{settingsOf};
-ghost use Rattle.capi.specs.Refused.{numberGiven, valueGiven, refusalInChecked, refusalInReplayed, refusalInJudged};
-ghost use Rattle.capi.specs.Refused.{refusalInDiscovered, refusalInReduced, refusalInWritten};
 ghost use Rattle.capi.specs.Results.{sizesAfter, leastAfter, lastAfter, countsAfter, verdictAfter};
 ghost use Rattle.capi.specs.Results.{runAfter, keptCountAfter, byteCountAfter};
 use discovery::discover;
-use discovery::mark_of;
 use discovery_spec::Discovered;
 use event_log::check_log;
 use event_log_spec::Checked;
@@ -33,6 +30,7 @@ use replay::judge_place;
 use replay::replay_first_trace;
 use replay_spec::Judged;
 use replay_spec::Replayed;
+use replay_spec::mark_of;
 use reporter::report_places;
 use writer::Written;
 use writer::write_places;
@@ -57,8 +55,8 @@ fn accept(value: &mut u64) -> u8
 
 // The answer of a call that writes bytes, with how many they are.
 fn answer_bytes(answer: Written, value: &mut u64, count: &mut u64) -> u8
-    ensures number { λ r. ⌜ r ≡ numberGiven (refusalInWritten answer) ⌝ }
-    ensures value { λ _. ⌜ now (value .exit) ≡ valueGiven (refusalInWritten answer) ⌝ }
+    ensures number { λ r. ⌜ r ≡ writtenNumber answer ⌝ }
+    ensures value { λ _. ⌜ now (value .exit) ≡ writtenValue answer ⌝ }
     ensures count { λ _. ⌜ now (count .exit) ≡ byteCountAfter answer (now (count .entry)) ⌝ }
 {
     match answer {
@@ -78,8 +76,8 @@ pub extern "C" fn placelist_check(
     value: &mut u64,
     counts: &mut [u64; 2],
 ) -> u8
-    ensures number { λ r. ⌜ r ≡ numberGiven (refusalInChecked (checked activities (now (text .entry)))) ⌝ }
-    ensures value { λ _. ⌜ now (value .exit) ≡ valueGiven (refusalInChecked (checked activities (now (text .entry)))) ⌝ }
+    ensures number { λ r. ⌜ r ≡ checkedNumber (checked activities (now (text .entry))) ⌝ }
+    ensures value { λ _. ⌜ now (value .exit) ≡ checkedValue (checked activities (now (text .entry))) ⌝ }
     ensures counts { λ _. ⌜ now (counts .exit) ≡ sizesAfter (checked activities (now (text .entry))) (now (counts .entry)) ⌝ }
 {
     match check_log(activities, text) {
@@ -102,9 +100,9 @@ pub extern "C" fn placelist_replay(
     least: &mut i16,
     last: &mut i16,
 ) -> u8
-    ensures number { λ r. ⌜ r ≡ numberGiven (refusalInReplayed (replayed activities (now (text .entry)) (place inputs outputs))) ⌝ }
+    ensures number { λ r. ⌜ r ≡ replayedNumber (replayed activities (now (text .entry)) (place inputs outputs)) ⌝ }
     ensures value { λ _. ⌜ now (value .exit)
-        ≡ valueGiven (refusalInReplayed (replayed activities (now (text .entry)) (place inputs outputs))) ⌝ }
+        ≡ replayedValue (replayed activities (now (text .entry)) (place inputs outputs)) ⌝ }
     ensures least { λ _. ⌜ now (least .exit)
         ≡ leastAfter (replayed activities (now (text .entry)) (place inputs outputs)) (now (least .entry)) ⌝ }
     ensures last { λ _. ⌜ now (last .exit)
@@ -135,9 +133,9 @@ pub extern "C" fn placelist_judge(
     counts: &mut [u64; 4],
     verdict: &mut u8,
 ) -> u8
-    ensures number { λ r. ⌜ r ≡ numberGiven (refusalInJudged (judged activities threshold (now (text .entry)) (place inputs outputs))) ⌝ }
+    ensures number { λ r. ⌜ r ≡ judgedNumber (judged activities threshold (now (text .entry)) (place inputs outputs)) ⌝ }
     ensures value { λ _. ⌜ now (value .exit)
-        ≡ valueGiven (refusalInJudged (judged activities threshold (now (text .entry)) (place inputs outputs))) ⌝ }
+        ≡ judgedValue (judged activities threshold (now (text .entry)) (place inputs outputs)) ⌝ }
     ensures counts { λ _. ⌜ now (counts .exit)
         ≡ countsAfter (judged activities threshold (now (text .entry)) (place inputs outputs)) (now (counts .entry)) ⌝ }
     ensures verdict { λ _. ⌜ now (verdict .exit)
@@ -171,11 +169,11 @@ pub extern "C" fn placelist_search(
     run: &mut [u64; 5],
 ) -> u8
     ensures number { λ r. ⌜ r
-        ≡ numberGiven (refusalInDiscovered (discovered (settingsOf activities «most_inputs» «most_outputs» threshold) (now (text .entry))
-        (capacityOf (now (rejected .entry)) (now (found .entry)) budget))) ⌝ }
+        ≡ discoveredNumber (discovered (settingsOf activities «most_inputs» «most_outputs» threshold) (now (text .entry))
+        (capacityOf (now (rejected .entry)) (now (found .entry)) budget)) ⌝ }
     ensures value { λ _. ⌜ now (value .exit)
-        ≡ valueGiven (refusalInDiscovered (discovered (settingsOf activities «most_inputs» «most_outputs» threshold) (now (text .entry))
-        (capacityOf (now (rejected .entry)) (now (found .entry)) budget))) ⌝ }
+        ≡ discoveredValue (discovered (settingsOf activities «most_inputs» «most_outputs» threshold) (now (text .entry))
+        (capacityOf (now (rejected .entry)) (now (found .entry)) budget)) ⌝ }
     ensures run { λ _. ⌜ now (run .exit)
         ≡ runAfter (discovered (settingsOf activities «most_inputs» «most_outputs» threshold) (now (text .entry))
         (capacityOf (now (rejected .entry)) (now (found .entry)) budget)) (now (run .entry)) ⌝ }
@@ -215,8 +213,8 @@ pub extern "C" fn placelist_reduce(
     value: &mut u64,
     count: &mut u64,
 ) -> u8
-    ensures number { λ r. ⌜ r ≡ numberGiven (refusalInReduced (reduced (now (words .entry)) (length (now (kept .entry))))) ⌝ }
-    ensures value { λ _. ⌜ now (value .exit) ≡ valueGiven (refusalInReduced (reduced (now (words .entry)) (length (now (kept .entry))))) ⌝ }
+    ensures number { λ r. ⌜ r ≡ reducedNumber (reduced (now (words .entry)) (length (now (kept .entry)))) ⌝ }
+    ensures value { λ _. ⌜ now (value .exit) ≡ reducedValue (reduced (now (words .entry)) (length (now (kept .entry)))) ⌝ }
     ensures count { λ _. ⌜ now (count .exit) ≡ keptCountAfter (reduced (now (words .entry)) (length (now (kept .entry)))) (now (count .entry)) ⌝ }
     ensures kept { λ _. ⌜ now (kept .exit) ≡ reducedAfter (now (words .entry)) (now (kept .entry)) ⌝ }
 {
@@ -237,8 +235,8 @@ pub extern "C" fn placelist_write(
     value: &mut u64,
     count: &mut u64,
 ) -> u8
-    ensures number { λ r. ⌜ r ≡ numberGiven (refusalInWritten (written (now (words .entry)) (length (now (text .entry))))) ⌝ }
-    ensures value { λ _. ⌜ now (value .exit) ≡ valueGiven (refusalInWritten (written (now (words .entry)) (length (now (text .entry))))) ⌝ }
+    ensures number { λ r. ⌜ r ≡ writtenNumber (written (now (words .entry)) (length (now (text .entry)))) ⌝ }
+    ensures value { λ _. ⌜ now (value .exit) ≡ writtenValue (written (now (words .entry)) (length (now (text .entry)))) ⌝ }
     ensures count { λ _. ⌜ now (count .exit) ≡ byteCountAfter (written (now (words .entry)) (length (now (text .entry)))) (now (count .entry)) ⌝ }
     ensures text { λ _. ⌜ now (text .exit) ≡ writtenAfter (now (words .entry)) (now (text .entry)) ⌝ }
 {
@@ -254,8 +252,8 @@ pub extern "C" fn placelist_report(
     value: &mut u64,
     count: &mut u64,
 ) -> u8
-    ensures number { λ r. ⌜ r ≡ numberGiven (refusalInWritten (reported (now (input .entry)) (length (now (output .entry))))) ⌝ }
-    ensures value { λ _. ⌜ now (value .exit) ≡ valueGiven (refusalInWritten (reported (now (input .entry)) (length (now (output .entry))))) ⌝ }
+    ensures number { λ r. ⌜ r ≡ writtenNumber (reported (now (input .entry)) (length (now (output .entry)))) ⌝ }
+    ensures value { λ _. ⌜ now (value .exit) ≡ writtenValue (reported (now (input .entry)) (length (now (output .entry)))) ⌝ }
     ensures count { λ _. ⌜ now (count .exit) ≡ byteCountAfter (reported (now (input .entry)) (length (now (output .entry)))) (now (count .entry)) ⌝ }
     ensures output { λ _. ⌜ now (output .exit) ≡ outputAfter (now (input .entry)) (now (output .entry)) ⌝ }
 {

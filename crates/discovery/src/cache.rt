@@ -6,6 +6,7 @@ ghost use Rattle.discovery_spec.specs.Rejected.{markIn, placeIn, rulesUnderfed,
 ghost use Rattle.discovery.specs.Rulings.{rulingOf};
 use crate::Ruling;
 use candidate_order::is_lighter;
+use discovery_spec::MARK_UNIT;
 use places::Place;
 use places::place_of;
 
@@ -13,14 +14,14 @@ use places::place_of;
 fn place_in(word: u64) -> Place
     ensures { λ r. ⌜ r ≡ placeIn word ⌝ }
 {
-    place_of((word % 4294967296) as u32)
+    place_of((word % MARK_UNIT) as u32)
 }
 
 // Whether a word is marked as underfed, alone or with overfed.
 fn marked_underfed(word: u64) -> bool
     ensures { λ r. ⌜ r ≡ (eqb (markIn word) 1 || eqb (markIn word) 3) ⌝ }
 {
-    let mark = word / 4294967296;
+    let mark = word / MARK_UNIT;
     mark == 1 || mark == 3
 }
 
@@ -28,7 +29,7 @@ fn marked_underfed(word: u64) -> bool
 fn marked_overfed(word: u64) -> bool
     ensures { λ r. ⌜ r ≡ (eqb (markIn word) 2 || eqb (markIn word) 3) ⌝ }
 {
-    let mark = word / 4294967296;
+    let mark = word / MARK_UNIT;
     mark == 2 || mark == 3
 }
 

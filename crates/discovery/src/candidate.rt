@@ -14,12 +14,15 @@ ghost use Rattle.discovery.specs.Standing.{stateIn, Stands, Leaves, prun
 use crate::Ruling;
 use crate::Turn;
 use crate::cache::ruling_by;
-use crate::mark_of;
+use discovery_spec::BUDGET_SPENT;
+use discovery_spec::LIST_FULL;
+use discovery_spec::MARK_UNIT;
 use discovery_spec::Run;
 use places::Place;
 use places::word_of;
 use replay::verdict_over;
 use replay_spec::Verdict;
+use replay_spec::mark_of;
 
 // What follows the replay of a candidate that no word ruled: it is found, or its word goes where there is room among the rejected. Only a word
 // that was kept can prune, and then by its own mark.
@@ -45,13 +48,13 @@ fn conclude_turn(
             found[at] = word;
             run.found = at + 1;
         } else {
-            run.end = 2;
+            run.end = LIST_FULL;
         }
         return Turn { run, prune: false };
     }
     let at = run.rejected;
     if at < rejected.len() {
-        rejected[at] = word as u64 + 4294967296 * mark as u64;
+        rejected[at] = word as u64 + MARK_UNIT * mark as u64;
         run.rejected = at + 1;
         return Turn {
             run,
@@ -94,7 +97,7 @@ pub fn visit_candidate(
         }
         Ruling::Unruled => {
             if budget <= run.replays {
-                run.end = 1;
+                run.end = BUDGET_SPENT;
                 return Turn { run, prune: false };
             }
             run.visits += 1;

@@ -1,8 +1,11 @@
 // The search over candidates for the places that a log fits: document 01, "The walk".
 ghost use mathlib.Core.Path.{_≡_};
-ghost use Rattle.discovery_spec.specs.Rejected.{mark};
-ghost use Rattle.discovery_spec.specs.Discovery.{discovered, capacityOf, foundAfter, rejectedAfter};
+ghost use Prim.Native.Nat.{_≤_};
+ghost use Rattle.limits.specs.Refusals.{Numbered};
+ghost use Rattle.discovery_spec.specs.Discovery.{runRefusal, discovered, discoveredNumber, discoveredValue, replaysIn};
+ghost use Rattle.discovery_spec.specs.Discovery.{capacityOf, foundAfter, rejectedAfter};
 use crate::search::search_from;
+use discovery_spec::COMPLETED;
 use discovery_spec::Discovered;
 use discovery_spec::Run;
 use event_log::check_log;
@@ -13,7 +16,6 @@ use limits::Settings;
 use limits::settings_in_range;
 use log_lines::MOST_FRAMES;
 use places::Place;
-use replay_spec::Verdict;
 
 mod cache; // cache.rt: which way the words of rejected places rule a candidate
 mod candidate; // candidate.rt: one candidate in its turn
@@ -38,18 +40,6 @@ pub struct Position {
     pub candidate: Place,
 }
 
-// The mark of a verdict, 0 of fitting.
-pub fn mark_of(verdict: Verdict) -> u8
-    ensures { λ r. ⌜ r ≡ mark verdict ⌝ }
-{
-    match verdict {
-        Verdict::Fitting => 0,
-        Verdict::Underfed => 1,
-        Verdict::Overfed => 2,
-        Verdict::Both => 3,
-    }
-}
-
 // Searches the candidates in their order for those that the log fits, with the room of two buffers and a budget of replays. The words of found
 // places are written from the front of the one buffer, and those of rejected places from the front of the other. What the buffers hold is not
 // read.
@@ -63,6 +53,8 @@ pub fn discover(
     ensures answer { λ r. ⌜ r ≡ discovered settings (now (text .entry)) (capacityOf (now (rejected .entry)) (now (found .entry)) budget) ⌝ }
     ensures cache { λ _. ⌜ now (rejected .exit) ≡ rejectedAfter settings (now (text .entry)) (now (rejected .entry)) (now (found .entry)) budget ⌝ }
     ensures list { λ _. ⌜ now (found .exit) ≡ foundAfter settings (now (text .entry)) (now (rejected .entry)) (now (found .entry)) budget ⌝ }
+    ensures numbered { λ r. ⌜ Numbered (runRefusal settings (now (text .entry))) (discoveredNumber r) (discoveredValue r) ⌝ }
+    ensures within { λ r. ⌜ replaysIn r ≤ budget ⌝ }
 {
     if !settings_in_range(settings) {
         return Discovered::Refused(Refusal::InvalidSetting);
@@ -74,7 +66,7 @@ pub fn discover(
             cases: _,
         } => {
             let run = Run {
-                end: 0,
+                end: COMPLETED,
                 found: 0,
                 rejected: 0,
                 replays: 0,

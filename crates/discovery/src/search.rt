@@ -11,6 +11,7 @@ use crate::Position;
 use crate::candidate::visit_candidate;
 use candidate_order::set::set_after;
 use candidate_order::set::set_past;
+use discovery_spec::COMPLETED;
 use discovery_spec::Run;
 use limits::Settings;
 use places::Place;
@@ -59,7 +60,7 @@ fn search_inputs(
             run,
             Place { inputs, outputs },
         );
-        if turn.run.end != 0 {
+        if turn.run.end != COMPLETED {
             return turn.run;
         }
         run = turn.run;
@@ -103,7 +104,7 @@ pub fn search_from(
                 candidate: Place { inputs, outputs },
             },
         );
-        if run.end != 0 {
+        if run.end != COMPLETED {
             return run;
         }
         inputs = 1;

@@ -7,7 +7,7 @@ use lib.ListN.{length}
 use Rattle.foundation.specs.Buffers.{overwrite}
 use Rattle.limits.specs.declared.Refusal.{Refusal}
 use Rattle.limits.specs.declared.Settings.{Settings}
-use Rattle.limits.specs.Refusals.{answer}
+use Rattle.limits.specs.Refusals.{number, value, answer}
 use Rattle.limits.specs.Settings.{settingsFault}
 use Rattle.places.specs.Candidates.{candidates}
 use Rattle.event_log_spec.specs.Lines.{framesOf}
@@ -40,6 +40,20 @@ runRefusal s text = logRefusal (settingsFault s) none (s .activities) text
 -- the call's answer
 unfoldable pub discovered : Settings → List ℕ → Capacity → Discovered
 discovered s text room = answer Refused (runRefusal s text) (Ran (summary (run s text room)))
+
+-- the number of an answer, 0 where the call is not refused, and the value beside it
+unfoldable pub discoveredNumber : Discovered → ℕ
+discoveredNumber (Ran run) = 0
+discoveredNumber (Refused r) = number r
+
+unfoldable pub discoveredValue : Discovered → ℕ
+discoveredValue (Ran run) = 0
+discoveredValue (Refused r) = value r
+
+-- the candidates that an answer says were replayed: none after a refusal
+unfoldable pub replaysIn : Discovered → ℕ
+replaysIn (Ran run) = run .replays
+replaysIn (Refused r) = 0
 
 -- the capacity that the two buffers and the budget give a run: as much room as the buffers are long, whatever they hold
 unfoldable pub capacityOf : List ℕ → List ℕ → ℕ → Capacity

@@ -8,25 +8,23 @@ use Rattle.foundation.specs.Lists.{any}
 use Rattle.places.specs.declared.Place.{Place}
 use Rattle.places.specs.Places.{word, placeOf, lighter}
 use Rattle.replay_spec.specs.declared.Verdict.{Verdict}
-use Rattle.replay_spec.specs.declared.Verdict.the-variants.{Fitting, Underfed, Overfed, Both}
+use Rattle.replay_spec.specs.Judgement.{mark}
 
--- the mark of a rejected place; a fitting place is not rejected, and a word of mark 0 rules nothing
-unfoldable pub mark : Verdict → ℕ
-mark Fitting = 0
-mark Underfed = 1
-mark Overfed = 2
-mark Both = 3
+-- what a mark counts for in a word: 2 to the power 32
+abbrev pub markUnit : ℕ
+markUnit = 4294967296
 
--- the 64-bit word of a rejected place, a shelf word of document 01: its list word, and the mark above bit 31
+-- the 64-bit word of a rejected place, a shelf word of document 01: its list word, and the mark above bit 31. A fitting place, of mark 0, is not
+-- rejected, and a word of that mark rules nothing
 unfoldable pub rejectedWord : Place → Verdict → ℕ
-rejectedWord p v = word p + 4294967296 * mark v
+rejectedWord p v = word p + markUnit * mark v
 
 -- the mark and the place of such a word
 unfoldable pub markIn : ℕ → ℕ
-markIn w = w / 4294967296
+markIn w = w / markUnit
 
 unfoldable pub placeIn : ℕ → Place
-placeIn w = placeOf (w % 4294967296)
+placeIn w = placeOf (w % markUnit)
 
 -- the word w, of an underfed place, rules c underfed: c is at least as light
 unfoldable pub rulesUnderfed : Place → ℕ → Bool

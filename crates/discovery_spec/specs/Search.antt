@@ -32,6 +32,16 @@ pub record State : Type 0 where
   pub visits : ℕ
   pub pruned : List Place
 
+-- how a run ends: the last candidate had its turn, the budget was spent, or the list was full
+abbrev pub completed : ℕ
+completed = 0
+
+abbrev pub budgetSpent : ℕ
+budgetSpent = 1
+
+abbrev pub listFull : ℕ
+listFull = 2
+
 -- a run goes on, or it has stopped with an end
 pub data Progress : Type 0 where
   going : State → Progress
@@ -68,7 +78,7 @@ isPruned s c = any (λ (ancestor : Place). descends ancestor c) (s .pruned)
 module _ (room : Capacity) where
   -- a fitting candidate is found; where the list is full the run stops with end 2, and the candidate stays counted
   unfoldable pub accept : Place → State → Progress
-  accept c s = cond (ltb (length (s .found)) (room .found)) (proceed c (withFound (word c) s)) (stopped 2 s)
+  accept c s = cond (ltb (length (s .found)) (room .found)) (proceed c (withFound (word c) s)) (stopped listFull s)
 
   -- the word of one that does not fit goes into the cache, or is dropped where the cache is full
   unfoldable pub reject : Verdict → Place → State → Progress
@@ -84,7 +94,7 @@ module _ (room : Capacity) where
 module _ (verdict : Place → Verdict) (room : Capacity) where
   -- with the budget spent the run stops with end 1 before the candidate counts; else it is visited and replayed
   unfoldable pub replay : Place → State → Progress
-  replay c s = cond (leb (room .budget) (s .replays)) (stopped 1 s) (conclude room (verdict c) c (replayedOnce (visited s)))
+  replay c s = cond (leb (room .budget) (s .replays)) (stopped budgetSpent s) (conclude room (verdict c) c (replayedOnce (visited s)))
 
   -- a candidate that the cache rules is visited and not replayed
   unfoldable pub visit : Place → State → Progress
@@ -101,7 +111,7 @@ module _ (verdict : Place → Verdict) (room : Capacity) where
 
 -- a run that no candidate stopped has end 0
 unfoldable pub endOf : Progress → ℕ
-endOf (going s) = 0
+endOf (going s) = completed
 endOf (stopped end s) = end
 
 -- what a run has, whether it goes on or not

@@ -1,9 +1,9 @@
 -- One name for all definitions of this layer and of those below it: a proof by computation says `unfolding opened`.
 -- Assumes nothing.
 use Rattle.event_log.specs.Stepping.{casesAt, pairsLength, traceEnd, frameIndex}
-use Rattle.event_log.specs.Pass.{linesChecked}
+use Rattle.event_log.specs.Pass.{textChecked, linesChecked}
 use Rattle.log_lines.proofs.Opened.{opened as opened-log-lines}
 
 unfoldable pub opened : Unit {0}
-unfolding casesAt pairsLength traceEnd frameIndex linesChecked opened-log-lines
+unfolding casesAt pairsLength traceEnd frameIndex textChecked linesChecked opened-log-lines
 opened = tt

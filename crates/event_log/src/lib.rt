@@ -1,7 +1,10 @@
 // Case logs: document 01, "Settings and the log".
 ghost use mathlib.Core.Path.{_≡_};
-ghost use Rattle.event_log_spec.specs.Checking.{checked};
-ghost use Rattle.event_log.specs.Pass.{linesChecked};
+ghost use mathlib.Core.Option.{none};
+ghost use Rattle.limits.specs.Refusals.{Numbered};
+ghost use Rattle.limits.specs.Settings.{boundFault};
+ghost use Rattle.event_log_spec.specs.Checking.{logRefusal, checked, checkedNumber, checkedValue};
+ghost use Rattle.event_log.specs.Pass.{textChecked, linesChecked};
 use event_log_spec::Checked;
 use limits::Refusal;
 use limits::bound_in_range;
@@ -11,7 +14,7 @@ use log_lines::line::check_line;
 pub mod frame; // frame.rt: stepping through the frames of a checked log
 
 // Every line of a text, in one pass.
-pub fn check_lines(activities: u8, text: &[u8]) -> Checked
+fn check_lines(activities: u8, text: &[u8]) -> Checked
     ensures { λ r. ⌜ r ≡ linesChecked activities (now (text .entry)) ⌝ }
 {
     let mut at = 0;
@@ -30,15 +33,24 @@ pub fn check_lines(activities: u8, text: &[u8]) -> Checked
     Checked::Accepted { frames, cases }
 }
 
-// Checks a log under an activity bound.
-pub fn check_log(activities: u8, text: &[u8]) -> Checked
-    ensures { λ r. ⌜ r ≡ checked activities (now (text .entry)) ⌝ }
+// Checks a text for a call whose settings and places have passed their checks, which come before those of the text.
+pub fn check_text(activities: u8, text: &[u8]) -> Checked
+    ensures { λ r. ⌜ r ≡ textChecked activities (now (text .entry)) ⌝ }
 {
-    if !bound_in_range(activities) {
-        return Checked::Refused(Refusal::InvalidSetting);
-    }
     if text.len() == 0 {
         return Checked::Refused(Refusal::EmptyLog);
     }
     check_lines(activities, text)
+}
+
+// Checks a log under an activity bound.
+pub fn check_log(activities: u8, text: &[u8]) -> Checked
+    ensures answer { λ r. ⌜ r ≡ checked activities (now (text .entry)) ⌝ }
+    ensures numbered { λ r. ⌜ Numbered (logRefusal (boundFault activities) none activities (now (text .entry)))
+        (checkedNumber r) (checkedValue r) ⌝ }
+{
+    if !bound_in_range(activities) {
+        return Checked::Refused(Refusal::InvalidSetting);
+    }
+    check_text(activities, text)
 }

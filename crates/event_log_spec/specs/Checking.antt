@@ -9,7 +9,7 @@ use lib.ListN.{length, take, drop, getD}
 use Rattle.foundation.specs.Lists.{all, any}
 use Rattle.limits.specs.declared.Refusal.{Refusal}
 use Rattle.limits.specs.declared.Refusal.the-variants.{MalformedFrame, UnknownActivity, MisplacedEndpoint, TooLarge, EmptyLog}
-use Rattle.limits.specs.Refusals.{given, firstOf, firstRefusal, answer}
+use Rattle.limits.specs.Refusals.{number, value, given, firstOf, firstRefusal, answer}
 use Rattle.limits.specs.Settings.{boundFault}
 use Rattle.event_log_spec.specs.declared.Checked.{Checked}
 use Rattle.event_log_spec.specs.declared.Checked.the-variants.{Accepted, Refused}
@@ -65,7 +65,16 @@ textFault A text = linesFault A 0 (lines text)
 unfoldable pub logRefusal : Option Refusal → Option Refusal → ℕ → List ℕ → Option Refusal
 logRefusal settings places A text =
     firstRefusal
-    (record { settings = settings; places = places; room = none; emptiness = emptyFault text; lines = textFault A text })
+    (record {
+      settings = settings;
+      arguments = none;
+      places = places;
+      map = none;
+      room = none;
+      emptiness = emptyFault text;
+      lines = textFault A text;
+      result-room = none;
+    })
 
 -- checking takes A and the text, and answers the number of frames and N
 unfoldable pub checked : ℕ → List ℕ → Checked
@@ -74,3 +83,12 @@ checked A text =
     Refused
     (logRefusal (boundFault A) none A text)
     (Accepted (length (framesOf text)) (totalCases (framesOf text)))
+
+-- the number of an answer, 0 where the log is accepted, and the value beside it
+unfoldable pub checkedNumber : Checked → ℕ
+checkedNumber (Accepted frames cases) = 0
+checkedNumber (Refused r) = number r
+
+unfoldable pub checkedValue : Checked → ℕ
+checkedValue (Accepted frames cases) = 0
+checkedValue (Refused r) = value r

@@ -3,11 +3,11 @@
 use Prim.Native.Nat.{ℕ}
 use mathlib.Core.Path.{_≡_, refl}
 use mathlib.Core.List.{List, [], _∷_, map}
-use mathlib.Core.Option.{none, some}
+use mathlib.Core.Option.{Option, none, some}
 use Rattle.limits.specs.declared.Refusal.{Refusal}
 use Rattle.limits.specs.declared.Refusal.the-variants.{InvalidSetting, MalformedFrame, UnknownActivity, MisplacedEndpoint, TooLarge, EmptyLog, InvalidPlace, BufferTooSmall}
 use Rattle.limits.specs.declared.Settings.{Settings}
-use Rattle.limits.specs.Refusals.{number, value, firstRefusal}
+use Rattle.limits.specs.Refusals.{number, value, Checks, firstRefusal}
 use Rattle.limits.specs.Settings.{boundFault, boundAndThresholdFault, settingsFault}
 use Rattle.limits.proofs.Opened.{opened}
 
@@ -27,33 +27,35 @@ table =
 abbrev set : ℕ → ℕ → ℕ → ℕ → Settings
 set A mi mo T = record { activities = A; inputs = mi; outputs = mo; threshold = T }
 
+-- the checks of a call, in their order
+abbrev checks : (settings arguments places map room emptiness lines result-room : Option Refusal) → Checks
+checks settings arguments places map room emptiness lines result-room =
+    record {
+      settings = settings;
+      arguments = arguments;
+      places = places;
+      map = map;
+      room = room;
+      emptiness = emptiness;
+      lines = lines;
+      result-room = result-room;
+    }
+
+-- a refusal by each check from some on, told apart by their lines
+abbrev at : ℕ → Option Refusal
+at line = some (TooLarge line)
+
 pub record Examples : Type 0 where
   pub numbers : map number table ≡ 1 ∷ 2 ∷ 3 ∷ 4 ∷ 5 ∷ 6 ∷ 7 ∷ 8 ∷ []
   pub values : map value table ≡ 0 ∷ 9 ∷ 9 ∷ 9 ∷ 9 ∷ 0 ∷ 9 ∷ 0 ∷ []
-  pub places-before-room :
-      firstRefusal
-      (record {
-        settings = none;
-        places = some (InvalidPlace 1);
-        room = some BufferTooSmall;
-        emptiness = some EmptyLog;
-        lines = some (TooLarge 2);
-      })
-      ≡ some (InvalidPlace 1)
-  pub room-before-log :
-      firstRefusal
-      (record { settings = none; places = none; room = some BufferTooSmall; emptiness = some EmptyLog; lines = none })
-      ≡ some BufferTooSmall
-  pub settings-first :
-      firstRefusal
-      (record {
-        settings = some InvalidSetting;
-        places = some (InvalidPlace 1);
-        room = none;
-        emptiness = none;
-        lines = some (TooLarge 2);
-      })
-      ≡ some InvalidSetting
+  pub settings-first : firstRefusal (checks (at 0) (at 1) (at 2) (at 3) (at 4) (at 5) (at 6) (at 7)) ≡ at 0
+  pub arguments-next : firstRefusal (checks none (at 1) (at 2) (at 3) (at 4) (at 5) (at 6) (at 7)) ≡ at 1
+  pub places-before-room : firstRefusal (checks none none (at 2) none (at 4) (at 5) (at 6) (at 7)) ≡ at 2
+  pub map-before-room : firstRefusal (checks none none none (at 3) (at 4) (at 5) (at 6) (at 7)) ≡ at 3
+  pub room-before-log : firstRefusal (checks none none none none (at 4) (at 5) (at 6) (at 7)) ≡ at 4
+  pub emptiness-before-lines : firstRefusal (checks none none none none none (at 5) (at 6) (at 7)) ≡ at 5
+  pub lines-before-results : firstRefusal (checks none none none none none none (at 6) (at 7)) ≡ at 6
+  pub results-last : firstRefusal (checks none none none none none none none (at 7)) ≡ at 7
   pub bounds : map boundFault (2 ∷ 16 ∷ []) ≡ none ∷ none ∷ []
   pub bounds-refused : map boundFault (1 ∷ 17 ∷ []) ≡ some InvalidSetting ∷ some InvalidSetting ∷ []
   pub thresholds : map (boundAndThresholdFault 6) (0 ∷ 1000 ∷ 1001 ∷ []) ≡ none ∷ none ∷ some InvalidSetting ∷ []
@@ -68,9 +70,14 @@ examples =
     record {
       numbers = refl;
       values = refl;
-      places-before-room = refl;
-      room-before-log = refl;
       settings-first = refl;
+      arguments-next = refl;
+      places-before-room = refl;
+      map-before-room = refl;
+      room-before-log = refl;
+      emptiness-before-lines = refl;
+      lines-before-results = refl;
+      results-last = refl;
       bounds = refl;
       bounds-refused = refl;
       thresholds = refl;

@@ -1,2 +1,3 @@
 pub mod SettingsRanges
 pub mod FirstOf
+pub mod AnswerNumbers

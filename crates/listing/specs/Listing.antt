@@ -5,14 +5,18 @@ use Prim.Native.Nat.{ℕ}
 use mathlib.Core.Path.{_≡_}
 use mathlib.Core.Bool.{cond}
 use mathlib.Core.List.{List}
+use mathlib.Core.Option.{Option, none, some}
 use lib.Dec.{eqb}
 use lib.ListN.{length, take}
+use Rattle.limits.specs.declared.Refusal.{Refusal}
 use Rattle.limits.specs.declared.Settings.{Settings}
+use Rattle.limits.specs.Refusals.{number, value, Numbered}
 use Rattle.discovery_spec.specs.declared.Discovered.{Discovered}
 use Rattle.discovery_spec.specs.declared.Discovered.the-variants as Answered
 use Rattle.discovery_spec.specs.declared.Run.{Run}
+use Rattle.discovery_spec.specs.Search.{completed}
 use Rattle.discovery_spec.specs.Discovery.{discovered, capacityOf, foundAfter, rejectedAfter}
-use Rattle.reduction_spec.specs.Reduction.{reduced, reducedAfter}
+use Rattle.reduction_spec.specs.Reduction.{reductionRefusal, reduced, reducedNumber, reducedValue, reducedAfter}
 use Rattle.listing.specs.declared.Listing.{Listing}
 use Rattle.listing.specs.declared.Listing.the-variants.{Refused, Incomplete, Complete}
 
@@ -35,12 +39,28 @@ foundIn run found = take (run .found) found
 unfoldable pub listingOf : Discovered → List ℕ → ℕ → Listing
 listingOf (Answered.Refused refusal) found room = Refused refusal
 listingOf (Answered.Ran run) found room =
-    cond (eqb (run .end) 0) (Complete run (reduced (foundIn run found) room)) (Incomplete run)
+    cond (eqb (run .end) completed) (Complete run (reduced (foundIn run found) room)) (Incomplete run)
+
+-- the refusal of the call: the search's, or after a completed run that of the reduction
+unfoldable pub refusalOf : Discovered → List ℕ → ℕ → Option Refusal
+refusalOf (Answered.Refused refusal) found room = some refusal
+refusalOf (Answered.Ran run) found room = cond (eqb (run .end) completed) (reductionRefusal (foundIn run found) room) none
+
+-- the number of an answer, 0 where nothing is refused, and the value beside it
+unfoldable pub listingNumber : Listing → ℕ
+listingNumber (Refused refusal) = number refusal
+listingNumber (Incomplete run) = 0
+listingNumber (Complete run answer) = reducedNumber answer
+
+unfoldable pub listingValue : Listing → ℕ
+listingValue (Refused refusal) = value refusal
+listingValue (Incomplete run) = 0
+listingValue (Complete run answer) = reducedValue answer
 
 -- what the second buffer then holds
 unfoldable pub keptOf : Discovered → List ℕ → List ℕ → List ℕ
 keptOf (Answered.Refused refusal) found kept = kept
-keptOf (Answered.Ran run) found kept = cond (eqb (run .end) 0) (reducedAfter (foundIn run found) kept) kept
+keptOf (Answered.Ran run) found kept = cond (eqb (run .end) completed) (reducedAfter (foundIn run found) kept) kept
 
 module _ (s : Settings) (text : List ℕ) (resources : Resources) where
   -- the search's own answer
@@ -61,9 +81,10 @@ module _ (s : Settings) (text : List ℕ) (resources : Resources) where
   unfoldable pub listing : Listing
   listing = listingOf searched foundLeft (length (resources .kept))
 
-  -- a call goes as written: its answer and what it leaves in the three buffers
+  -- a call goes as written: its answer, what it leaves in the three buffers, and the number and value of the answer
   pub record GoesAsWritten (answer : Listing) (rejected found kept : List ℕ) : Type 0 where
     pub answers : answer ≡ listing
     pub leaves-rejected : rejected ≡ rejectedLeft
     pub leaves-found : found ≡ foundLeft
     pub leaves-kept : kept ≡ keptLeft
+    pub numbered : Numbered (refusalOf searched foundLeft (length (resources .kept))) (listingNumber answer) (listingValue answer)

@@ -1,6 +1,7 @@
 // A run and, where it completes, the reduction of what it found: document 01, the words of demand 3.
 ghost use Rattle.listing.specs.Listing.{resourcesOf, GoesAsWritten};
 use discovery::discover;
+use discovery_spec::COMPLETED;
 use discovery_spec::Discovered;
 use discovery_spec::Run;
 use limits::Refusal;
@@ -33,7 +34,7 @@ pub fn list_places(
     match discover(settings, text, budget, rejected, found) {
         Discovered::Refused(refusal) => Listing::Refused(refusal),
         Discovered::Ran(run) => {
-            if run.end != 0 {
+            if run.end != COMPLETED {
                 return Listing::Incomplete(run);
             }
             let count = run.found;

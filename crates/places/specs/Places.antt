@@ -51,7 +51,16 @@ wordsFault index (w ∷ ws) = firstOf (placeFault mostActivities index (placeOf 
 unfoldable pub wordsRefusal : List ℕ → Bool → Option Refusal
 wordsRefusal words short =
     firstRefusal
-    (record { settings = none; places = wordsFault 0 words; room = given short BufferTooSmall; emptiness = none; lines = none })
+    (record {
+      settings = none;
+      arguments = none;
+      places = wordsFault 0 words;
+      map = none;
+      room = given short BufferTooSmall;
+      emptiness = none;
+      lines = none;
+      result-room = none;
+    })
 
 -- p is at least as light as q (Definition 10): its inputs are among those of q, and it has all outputs of q
 unfoldable pub lighter : Place → Place → Bool

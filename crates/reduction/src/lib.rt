@@ -3,8 +3,9 @@ ghost use mathlib.Core.Path.{_≡_};
 ghost use Prim.Native.Nat.{_≤_};
 ghost use lib.ListN.{length};
 ghost use Rattle.foundation.specs.Buffers.{overwrite};
+ghost use Rattle.limits.specs.Refusals.{Numbered};
 ghost use Rattle.reduction_spec.specs.Cover.{Listable};
-ghost use Rattle.reduction_spec.specs.Reduction.{reducedWords, reduced, reducedAfter};
+ghost use Rattle.reduction_spec.specs.Reduction.{reducedWords, reductionRefusal, reduced, reducedNumber, reducedValue, reducedAfter};
 use crate::union::is_redundant;
 use limits::Refusal;
 use places::list::first_invalid;
@@ -37,6 +38,7 @@ fn keep_irredundant(words: &[u32], kept: &mut [u32]) -> usize
 pub fn reduce(words: &[u32], kept: &mut [u32]) -> Reduced
     ensures answer { λ r. ⌜ r ≡ reduced (now (words .entry)) (length (now (kept .entry))) ⌝ }
     ensures list { λ _. ⌜ now (kept .exit) ≡ reducedAfter (now (words .entry)) (now (kept .entry)) ⌝ }
+    ensures numbered { λ r. ⌜ Numbered (reductionRefusal (now (words .entry)) (length (now (kept .entry)))) (reducedNumber r) (reducedValue r) ⌝ }
 {
     let invalid = first_invalid(words);
     if invalid < words.len() {

@@ -9,7 +9,7 @@ use lib.ListN.{length}
 use Rattle.foundation.specs.Lists.{keep}
 use Rattle.foundation.specs.Buffers.{overwrite}
 use Rattle.limits.specs.declared.Refusal.{Refusal}
-use Rattle.limits.specs.Refusals.{answer}
+use Rattle.limits.specs.Refusals.{number, value, answer}
 use Rattle.places.specs.Places.{placeOf, wordsRefusal}
 use Rattle.reduction_spec.specs.declared.Reduced.{Reduced}
 use Rattle.reduction_spec.specs.declared.Reduced.the-variants.{Kept, Refused}
@@ -30,6 +30,15 @@ reductionRefusal words room = wordsRefusal words (ltb room (length words))
 -- the call's answer for a second buffer of that many words: how many were kept
 unfoldable pub reduced : List ℕ → ℕ → Reduced
 reduced words room = answer Refused (reductionRefusal words room) (Kept (length (reducedWords words)))
+
+-- the number of an answer, 0 where the call is not refused, and the value beside it
+unfoldable pub reducedNumber : Reduced → ℕ
+reducedNumber (Kept count) = 0
+reducedNumber (Refused r) = number r
+
+unfoldable pub reducedValue : Reduced → ℕ
+reducedValue (Kept count) = 0
+reducedValue (Refused r) = value r
 
 -- what the second buffer holds on return: the kept words, then its old tail; after a refusal, what it held before
 unfoldable pub reducedAfter : List ℕ → List ℕ → List ℕ

@@ -1,18 +1,21 @@
 // Replaying traces and judging places: document 01, "Tokens in one trace".
 ghost use mathlib.Core.Path.{_≡_};
 ghost use Prim.Native.Nat.{_≤_};
-ghost use Rattle.limits.specs.Settings.{mostActivities};
+ghost use Rattle.limits.specs.Refusals.{Numbered};
+ghost use Rattle.limits.specs.Settings.{mostActivities, boundFault, boundAndThresholdFault};
+ghost use Rattle.places.specs.Places.{placeFault};
 ghost use Rattle.event_log_spec.specs.Frames.{WrittenLog};
 ghost use Rattle.event_log_spec.specs.Lines.{framesOf};
+ghost use Rattle.event_log_spec.specs.Checking.{logRefusal};
 ghost use Rattle.event_log.specs.Stepping.{frameIndex};
-ghost use Rattle.replay_spec.specs.Answers.{replayed, judged};
+ghost use Rattle.replay_spec.specs.Answers.{replayed, judged, replayedNumber, replayedValue, judgedNumber, judgedValue};
 ghost use Rattle.replay_spec.specs.Judgement.{verdict};
 ghost use Rattle.replay.specs.Replaying.{argumentsChecked};
 use crate::judgement::count_cases;
 use crate::judgement::verdict_on;
 use crate::trace::digit_sets;
 use crate::trace::replay_trace;
-use event_log::check_lines;
+use event_log::check_text;
 use event_log::frame::index_frames;
 use event_log::frame::trace_end;
 use event_log_spec::Checked;
@@ -52,15 +55,14 @@ fn check_arguments(activities: u8, in_range: bool, text: &[u8], place: Place) ->
     if !place_under(activities, place) {
         return Checked::Refused(Refusal::InvalidPlace { index: 0 });
     }
-    if text.len() == 0 {
-        return Checked::Refused(Refusal::EmptyLog);
-    }
-    check_lines(activities, text)
+    check_text(activities, text)
 }
 
 // Replays the first trace of a log on a place. The whole log is checked.
 pub fn replay_first_trace(activities: u8, text: &[u8], place: Place) -> Replayed
-    ensures { λ r. ⌜ r ≡ replayed activities (now (text .entry)) place ⌝ }
+    ensures answer { λ r. ⌜ r ≡ replayed activities (now (text .entry)) place ⌝ }
+    ensures numbered { λ r. ⌜ Numbered (logRefusal (boundFault activities) (placeFault activities 0 place) activities (now (text .entry)))
+        (replayedNumber r) (replayedValue r) ⌝ }
 {
     match check_arguments(activities, bound_in_range(activities), text, place) {
         Checked::Refused(refusal) => Replayed::Refused(refusal),
@@ -90,7 +92,10 @@ pub fn verdict_over(threshold: u16, text: &[u8], index: &[u64], place: Place) ->
 
 // Judges a place over a log at a threshold.
 pub fn judge_place(activities: u8, threshold: u16, text: &[u8], place: Place) -> Judged
-    ensures { λ r. ⌜ r ≡ judged activities threshold (now (text .entry)) place ⌝ }
+    ensures answer { λ r. ⌜ r ≡ judged activities threshold (now (text .entry)) place ⌝ }
+    ensures numbered { λ r. ⌜ Numbered
+        (logRefusal (boundAndThresholdFault activities threshold) (placeFault activities 0 place) activities (now (text .entry)))
+        (judgedNumber r) (judgedValue r) ⌝ }
 {
     let in_range = bound_and_threshold_in_range(activities, threshold);
     match check_arguments(activities, in_range, text, place) {

@@ -3,7 +3,7 @@
 use Prim.Native.Nat.{ℕ}
 use mathlib.Core.List.{List, []}
 use lib.ListN.{getD}
-use Rattle.limits.specs.Refusals.{answer}
+use Rattle.limits.specs.Refusals.{number, value, answer}
 use Rattle.limits.specs.Settings.{boundFault, boundAndThresholdFault}
 use Rattle.places.specs.declared.Place.{Place}
 use Rattle.places.specs.Places.{placeFault}
@@ -37,3 +37,20 @@ judged A T text p =
     JudgedAs.Refused
     (logRefusal (boundAndThresholdFault A T) (placeFault A 0 p) A text)
     (Counted (caseCounts p (framesOf text)) (verdict T (framesOf text) p))
+
+-- the number of an answer, 0 where the call is not refused, and the value beside it
+unfoldable pub replayedNumber : Replayed → ℕ
+replayedNumber (Balances least last) = 0
+replayedNumber (ReplayedAs.Refused r) = number r
+
+unfoldable pub replayedValue : Replayed → ℕ
+replayedValue (Balances least last) = 0
+replayedValue (ReplayedAs.Refused r) = value r
+
+unfoldable pub judgedNumber : Judged → ℕ
+judgedNumber (Counted counts verdict) = 0
+judgedNumber (JudgedAs.Refused r) = number r
+
+unfoldable pub judgedValue : Judged → ℕ
+judgedValue (Counted counts verdict) = 0
+judgedValue (JudgedAs.Refused r) = value r

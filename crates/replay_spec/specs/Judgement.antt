@@ -55,3 +55,10 @@ verdictOf T total c = verdictWhere (exceeds T total (underfedCases c)) (exceeds 
 -- the verdict on a place over a log's frames at T
 unfoldable pub verdict : ℕ → List Frame → Place → Verdict
 verdict T frames p = verdictOf T (totalCases frames) (caseCounts p frames)
+
+-- the number of a verdict, which marks the word of a rejected place: 1 underfed, 2 overfed, 3 both, and 0 of a fitting one
+unfoldable pub mark : Verdict → ℕ
+mark Fitting = 0
+mark Underfed = 1
+mark Overfed = 2
+mark Both = 3

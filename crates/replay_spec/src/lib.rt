@@ -1,4 +1,6 @@
-// The types of what replaying and judging answer: document 01, "Tokens in one trace". It has no code.
+// The types of what replaying and judging answer: document 01, "Tokens in one trace". The only code is the number of a verdict.
+ghost use mathlib.Core.Path.{_≡_};
+ghost use Rattle.replay_spec.specs.Judgement.{mark};
 use limits::Refusal;
 
 // What replaying the first trace of a log answers: the least balance and the balance after the last event, the low and the end of document 01.
@@ -30,4 +32,16 @@ pub enum Judged {
         verdict: Verdict,
     },
     Refused(Refusal),
+}
+
+// The number of a verdict, 0 of fitting.
+pub fn mark_of(verdict: Verdict) -> u8
+    ensures { λ r. ⌜ r ≡ mark verdict ⌝ }
+{
+    match verdict {
+        Verdict::Fitting => 0,
+        Verdict::Underfed => 1,
+        Verdict::Overfed => 2,
+        Verdict::Both => 3,
+    }
 }

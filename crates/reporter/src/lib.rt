@@ -3,8 +3,10 @@ ghost use mathlib.Core.Path.{_≡_};
 ghost use Prim.Native.Nat.{_≤_};
 ghost use lib.ListN.{length};
 ghost use Rattle.foundation.specs.Buffers.{overwrite};
+ghost use Rattle.limits.specs.Refusals.{Numbered};
+ghost use Rattle.writer.specs.Writing.{writtenNumber, writtenValue};
 ghost use Rattle.reporter_spec.specs.Program.{placelist};
-ghost use Rattle.reporter.specs.Reporting.{logReport, mostOutput, reported, outputAfter};
+ghost use Rattle.reporter.specs.Reporting.{logReport, mostOutput, reportingRefusal, reported, outputAfter};
 use crate::lines::write_refusal;
 use crate::lines::write_report;
 use crate::settings_frame::is_well_formed;
@@ -90,6 +92,7 @@ fn report_input(input: &[u8], output: &mut [u8]) -> usize
 pub fn report_places(input: &[u8], output: &mut [u8]) -> Written
     ensures answer { λ r. ⌜ r ≡ reported (now (input .entry)) (length (now (output .entry))) ⌝ }
     ensures output { λ _. ⌜ now (output .exit) ≡ outputAfter (now (input .entry)) (now (output .entry)) ⌝ }
+    ensures numbered { λ r. ⌜ Numbered (reportingRefusal (length (now (output .entry)))) (writtenNumber r) (writtenValue r) ⌝ }
 {
     if output.len() < MOST_OUTPUT {
         return Written::Refused(Refusal::BufferTooSmall);

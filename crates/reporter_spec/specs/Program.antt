@@ -12,7 +12,7 @@ use Rattle.limits.specs.declared.Refusal.the-variants.{InvalidSetting, TooLarge
 use Rattle.limits.specs.declared.Settings.{Settings}
 use Rattle.limits.specs.Refusals.{number, value, given, firstOf, answer}
 use Rattle.hex_digits.specs.Digits.{isDigit, readHex, writeHex, lineFeed}
-use Rattle.discovery_spec.specs.Search.{Capacity, holding, Progress, endOf, stateOf}
+use Rattle.discovery_spec.specs.Search.{Capacity, holding, completed, Progress, endOf, stateOf}
 use Rattle.discovery_spec.specs.Discovery.{run, runRefusal}
 use Rattle.reduction_spec.specs.Reduction.{reducedWords}
 use Rattle.writer.specs.Writing.{listText}
@@ -63,7 +63,7 @@ resultLine p =
 
 -- the list that it writes: reduced if the run completed, as found otherwise
 unfoldable pub reportedWords : Progress → List ℕ
-reportedWords p = cond (eqb (endOf p) 0) (reducedWords (stateOf p .found)) (stateOf p .found)
+reportedWords p = cond (eqb (endOf p) completed) (reducedWords (stateOf p .found)) (stateOf p .found)
 
 -- the list, then the last line
 unfoldable pub report : Progress → List ℕ

@@ -7,7 +7,7 @@ use lib.Dec.{ltb}
 use lib.ListN.{length}
 use Rattle.foundation.specs.Buffers.{overwrite}
 use Rattle.limits.specs.declared.Refusal.{Refusal}
-use Rattle.limits.specs.Refusals.{answer}
+use Rattle.limits.specs.Refusals.{number, value, answer}
 use Rattle.places.specs.Places.{placeOf, wordsRefusal}
 use Rattle.hex_digits.specs.Digits.{writeHex, lineFeed}
 use Rattle.writer.specs.declared.Written.{Written}
@@ -28,6 +28,15 @@ writingRefusal words room = wordsRefusal words (ltb room (9 * length words))
 -- the call's answer for a buffer of that many bytes: the bytes written
 unfoldable pub written : List ℕ → ℕ → Written
 written words room = answer Refused (writingRefusal words room) (Bytes (length (listText words)))
+
+-- the number of an answer, 0 where the call is not refused, and the value beside it
+unfoldable pub writtenNumber : Written → ℕ
+writtenNumber (Bytes count) = 0
+writtenNumber (Refused r) = number r
+
+unfoldable pub writtenValue : Written → ℕ
+writtenValue (Bytes count) = 0
+writtenValue (Refused r) = value r
 
 -- what the buffer holds on return: the lines, then its old tail; after a refusal, what it held before
 unfoldable pub writtenAfter : List ℕ → List ℕ → List ℕ

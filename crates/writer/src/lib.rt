@@ -3,7 +3,8 @@ ghost use mathlib.Core.Path.{_≡_};
 ghost use Prim.Native.Nat.{_*_, _≤_};
 ghost use lib.ListN.{length};
 ghost use Rattle.foundation.specs.Buffers.{overwrite};
-ghost use Rattle.writer.specs.Writing.{placeLine, listText, written, writtenAfter};
+ghost use Rattle.limits.specs.Refusals.{Numbered};
+ghost use Rattle.writer.specs.Writing.{placeLine, listText, writingRefusal, written, writtenNumber, writtenValue, writtenAfter};
 use crate::hex::write_hex;
 use limits::Refusal;
 use places::list::first_invalid;
@@ -53,6 +54,7 @@ pub fn write_lines(words: &[u32], text: &mut [u8]) -> usize
 pub fn write_places(words: &[u32], text: &mut [u8]) -> Written
     ensures answer { λ r. ⌜ r ≡ written (now (words .entry)) (length (now (text .entry))) ⌝ }
     ensures text { λ _. ⌜ now (text .exit) ≡ writtenAfter (now (words .entry)) (now (text .entry)) ⌝ }
+    ensures numbered { λ r. ⌜ Numbered (writingRefusal (now (words .entry)) (length (now (text .entry)))) (writtenNumber r) (writtenValue r) ⌝ }
 {
     let invalid = first_invalid(words);
     if invalid < words.len() {

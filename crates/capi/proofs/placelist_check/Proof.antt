@@ -2,8 +2,7 @@
 -- Assumes nothing.
 use mathlib.Core.Path.{_≡_, refl, sym, _∙_}
 use borrow.Author.Needs.{needs}
-use Rattle.event_log_spec.specs.Checking.{checked}
-use Rattle.capi.specs.Refused.{numberGiven, valueGiven, refusalInChecked}
+use Rattle.event_log_spec.specs.Checking.{checked, checkedNumber, checkedValue}
 use Rattle.capi.specs.Results.{sizesAfter}
 use Rattle.capi.proofs.placelist_check.Statement.{statement}
 use Rattle.capi.proofs.placelist_check.Tie as tie
@@ -11,16 +10,16 @@ use Rattle.capi.proofs.placelist_check.Tie as tie
 -- checking answers as defined
 answered : (c : tie.After-check-log)
     → let a = c .before .before .args in c .check-log .result ≡ checked (a .activities) (a .text .now)
-answered c = c .check-log .ensures
+answered c = c .check-log .ensures .0
 
 returns : tie.Need-returns
-unfolding numberGiven valueGiven refusalInChecked sizesAfter
+unfolding checkedNumber checkedValue sizesAfter
 returns c =
     let r = c .before .before .before in
     rw (sym (answered (r .before .before)) ∙ r .refusal .given .1) (c .refuse .ensures .0, (c .refuse .ensures .1, refl))
 
 returns-2 : tie.Need-returns-2
-unfolding numberGiven valueGiven refusalInChecked sizesAfter
+unfolding checkedNumber checkedValue sizesAfter
 returns-2 c =
     let r = c .before .before .before .before in
     rw (sym (answered (r .before .before)) ∙ r .frames .given .1) (c .accept .ensures .0, (c .accept .ensures .1, refl))

@@ -3,8 +3,7 @@
 use mathlib.Core.Path.{_≡_, refl, sym, _∙_}
 use borrow.Author.Needs.{needs}
 use Rattle.places.specs.Places.{place}
-use Rattle.replay_spec.specs.Answers.{judged}
-use Rattle.capi.specs.Refused.{numberGiven, valueGiven, refusalInJudged}
+use Rattle.replay_spec.specs.Answers.{judged, judgedNumber, judgedValue}
 use Rattle.capi.specs.Results.{countsAfter, verdictAfter}
 use Rattle.capi.proofs.placelist_judge.Statement.{statement}
 use Rattle.capi.proofs.placelist_judge.Tie as tie
@@ -13,17 +12,17 @@ use Rattle.capi.proofs.placelist_judge.Tie as tie
 answered : (c : tie.After-judge-place)
     → let a = c .before .before .args in
     c .judge-place .result ≡ judged (a .activities) (a .threshold) (a .text .now) (place (a .inputs) (a .outputs))
-answered c = c .judge-place .ensures
+answered c = c .judge-place .ensures .0
 
 returns : tie.Need-returns
-unfolding numberGiven valueGiven refusalInJudged countsAfter verdictAfter
+unfolding judgedNumber judgedValue countsAfter verdictAfter
 returns c =
     let r = c .before .before .before in
     rw (sym (answered (r .before .before)) ∙ r .refusal .given .1)
     (c .refuse .ensures .0, (c .refuse .ensures .1, (refl, refl)))
 
 returns-2 : tie.Need-returns-2
-unfolding numberGiven valueGiven refusalInJudged countsAfter verdictAfter
+unfolding judgedNumber judgedValue countsAfter verdictAfter
 returns-2 c =
     let m = c .before .before in
     let r = m .before .before .before in

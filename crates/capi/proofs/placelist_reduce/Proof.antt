@@ -3,8 +3,7 @@
 use mathlib.Core.Path.{_≡_, refl, sym, _∙_}
 use lib.ListN.{length}
 use borrow.Author.Needs.{needs}
-use Rattle.reduction_spec.specs.Reduction.{reduced}
-use Rattle.capi.specs.Refused.{numberGiven, valueGiven, refusalInReduced}
+use Rattle.reduction_spec.specs.Reduction.{reduced, reducedNumber, reducedValue}
 use Rattle.capi.specs.Results.{keptCountAfter}
 use Rattle.capi.proofs.placelist_reduce.Statement.{statement}
 use Rattle.capi.proofs.placelist_reduce.Tie as tie
@@ -15,20 +14,20 @@ answered : (c : tie.After-reduce)
 answered c = c .reduce .ensures .0
 
 returns : tie.Need-returns
-unfolding numberGiven valueGiven refusalInReduced keptCountAfter
+unfolding reducedNumber reducedValue keptCountAfter
 returns c =
     let r = c .before .before .before in
     let d = r .before .before .before .before in
     rw (sym (answered d) ∙ r .refusal .given .1)
-    (c .refuse .ensures .0, (c .refuse .ensures .1, (refl, d .reduce .ensures .1)))
+    (c .refuse .ensures .0, (c .refuse .ensures .1, (refl, d .reduce .ensures .1 .0)))
 
 returns-2 : tie.Need-returns-2
-unfolding numberGiven valueGiven refusalInReduced keptCountAfter
+unfolding reducedNumber reducedValue keptCountAfter
 returns-2 c =
     let r = c .before .before .before in
     let d = r .before .before .before .before in
     rw (sym (answered d) ∙ r .left .given .1)
-    (c .accept .ensures .0, (c .accept .ensures .1, (refl, d .reduce .ensures .1)))
+    (c .accept .ensures .0, (c .accept .ensures .1, (refl, d .reduce .ensures .1 .0)))
 
 pub placelist-reduce-spec : {M : Type 1} → statement M
 placelist-reduce-spec =

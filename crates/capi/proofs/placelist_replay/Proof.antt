@@ -5,8 +5,7 @@ use mir.Syntax.{w16}
 use mir.ValLaws.{toZ-ofZ}
 use borrow.Author.Needs.{needs}
 use Rattle.places.specs.Places.{place}
-use Rattle.replay_spec.specs.Answers.{replayed}
-use Rattle.capi.specs.Refused.{numberGiven, valueGiven, refusalInReplayed}
+use Rattle.replay_spec.specs.Answers.{replayed, replayedNumber, replayedValue}
 use Rattle.capi.specs.Results.{leastAfter, lastAfter}
 use Rattle.capi.proofs.placelist_replay.Statement.{statement}
 use Rattle.capi.proofs.placelist_replay.Tie as tie
@@ -15,17 +14,17 @@ use Rattle.capi.proofs.placelist_replay.Tie as tie
 answered : (c : tie.After-replay-first-trace)
     → let a = c .before .before .args in
     c .replay-first-trace .result ≡ replayed (a .activities) (a .text .now) (place (a .inputs) (a .outputs))
-answered c = c .replay-first-trace .ensures
+answered c = c .replay-first-trace .ensures .0
 
 returns : tie.Need-returns
-unfolding numberGiven valueGiven refusalInReplayed leastAfter lastAfter
+unfolding replayedNumber replayedValue leastAfter lastAfter
 returns c =
     let r = c .before .before .before in
     rw (sym (answered (r .before .before)) ∙ r .refusal .given .1)
     (c .refuse .ensures .0, (c .refuse .ensures .1, (refl, refl)))
 
 returns-2 : tie.Need-returns-2
-unfolding numberGiven valueGiven refusalInReplayed leastAfter lastAfter
+unfolding replayedNumber replayedValue leastAfter lastAfter
 returns-2 c =
     let r = c .before .before .before in
     rw (sym (answered (r .before .before)) ∙ r .lowest .given .1)

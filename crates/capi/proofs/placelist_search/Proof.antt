@@ -2,9 +2,8 @@
 -- Assumes nothing.
 use mathlib.Core.Path.{_≡_, refl, sym, _∙_}
 use borrow.Author.Needs.{needs}
-use Rattle.discovery_spec.specs.Discovery.{discovered, capacityOf}
+use Rattle.discovery_spec.specs.Discovery.{discovered, capacityOf, discoveredNumber, discoveredValue}
 use Rattle.capi.specs.Settings.{settingsOf}
-use Rattle.capi.specs.Refused.{numberGiven, valueGiven, refusalInDiscovered}
 use Rattle.capi.specs.Results.{runAfter}
 use Rattle.capi.proofs.placelist_search.Statement.{statement}
 use Rattle.capi.proofs.placelist_search.Tie as tie
@@ -20,21 +19,21 @@ answered : (c : tie.After-discover)
 answered c = c .discover .ensures .0
 
 returns : tie.Need-returns
-unfolding numberGiven valueGiven refusalInDiscovered runAfter
+unfolding discoveredNumber discoveredValue runAfter
 returns c =
     let r = c .before .before .before in
     let d = r .before .before .before .before .before .before in
     let buffers = d .discover .ensures .1 in
     rw (sym (answered d) ∙ r .refusal .given .1)
-    (c .refuse .ensures .0, (c .refuse .ensures .1, (refl, (buffers .0, buffers .1))))
+    (c .refuse .ensures .0, (c .refuse .ensures .1, (refl, (buffers .0, buffers .1 .0))))
 
 returns-2 : tie.Need-returns-2
-unfolding numberGiven valueGiven refusalInDiscovered runAfter
+unfolding discoveredNumber discoveredValue runAfter
 returns-2 c =
     let r = c .before .before .before .before .before .before .before in
     let d = r .before .before .before .before .before .before in
     let buffers = d .discover .ensures .1 in
-    rw (sym (answered d) ∙ r .done .given .1) (c .accept .ensures .0, (c .accept .ensures .1, (refl, (buffers .0, buffers .1))))
+    rw (sym (answered d) ∙ r .done .given .1) (c .accept .ensures .0, (c .accept .ensures .1, (refl, (buffers .0, buffers .1 .0))))
 
 pub placelist-search-spec : {M : Type 1} → statement M
 placelist-search-spec =

@@ -13,7 +13,7 @@ use Rattle.limits.proofs.laws.SettingsRanges.{in-range}
 use Rattle.candidate_order.proofs.laws.Succession.{first-kind}
 use Rattle.event_log.proofs.laws.FrameIndex.{stored-room, stored-index}
 use Rattle.discovery_spec.specs.Discovery.{runRefusal}
-use Rattle.discovery.proofs.laws.CallAnswers.{log-known, searchable, all-countable, refused-answers, run-answers}
+use Rattle.discovery.proofs.laws.CallAnswers.{log-known, searchable, all-countable, contract, refused-answers, run-answers}
 use Rattle.discovery_spec.proofs.laws.CallChecks.{not-refused, settings-refused, log-refused, log-accepted}
 use Rattle.discovery.proofs.discover.Statement.{statement}
 use Rattle.discovery.proofs.discover.Tie as tie
@@ -27,22 +27,20 @@ log-passes : (c : tie.After-enum-told)
     → let a = c .before .before .before .before .before .before .before .before .args in runRefusal (a .settings) (a .text .now) ≡ none
 log-passes c =
     let k = c .before .before in
-    log-accepted _ _ (settings-pass k) _ _ (sym (k .check-log .ensures) ∙ c .enum-told .given .1)
+    log-accepted _ _ (settings-pass k) _ _ (sym (k .check-log .ensures .0) ∙ c .enum-told .given .1)
 
 returns : tie.Need-returns
 returns c =
     let a = c .before .before .before .before .before .args in
-    let refused =
-    refused-answers
+    contract _ _ _ _ _
+    (refused-answers
     (a .settings)
     (a .text .now)
     (a .rejected .now)
     (a .found .now)
     (a .budget)
     _
-    (settings-refused _ _ (sym (c .before .settings-in-range .ensures) ∙ not-true _ (c .if1 .taken)))
-    in
-    (refused .answer-is, (refused .rejected-are, refused .found-are))
+    (settings-refused _ _ (sym (c .before .settings-in-range .ensures) ∙ not-true _ (c .if1 .taken))))
 
 index-frames-requires : tie.Need-index-frames-requires
 index-frames-requires c κs = (log-known _ _ (not-refused _ _ (log-passes (c .before))), lit≤ tt)
@@ -69,17 +67,15 @@ returns-2 : tie.Need-returns-2
 returns-2 c =
     let k = c .before .before .before in
     let a = k .before .before .before .before .before .before .args in
-    let refused =
-    refused-answers
+    contract _ _ _ _ _
+    (refused-answers
     (a .settings)
     (a .text .now)
     (a .rejected .now)
     (a .found .now)
     (a .budget)
     _
-    (log-refused _ _ (settings-pass k) _ (sym (k .check-log .ensures) ∙ c .before .refusal .given .1))
-    in
-    (refused .answer-is, (refused .rejected-are, refused .found-are))
+    (log-refused _ _ (settings-pass k) _ (sym (k .check-log .ensures .0) ∙ c .before .refusal .given .1)))
 
 returns-3 : tie.Need-returns-3
 returns-3 c =
@@ -87,8 +83,8 @@ returns-3 c =
     let e = f .before .before .before .before .before .before .before .before in
     let k = e .before .before in
     let a = k .before .before .before .before .before .before .args in
-    let ran =
-    run-answers
+    contract _ _ _ _ _
+    (run-answers
     (a .settings)
     (a .text .now)
     (a .rejected .now)
@@ -96,9 +92,7 @@ returns-3 c =
     (a .budget)
     (log-passes e)
     (in-range _ (settings-pass k))
-    (f .search-from .ensures)
-    in
-    (ran .answer-is, (ran .rejected-are, ran .found-are))
+    (f .search-from .ensures))
 
 pub discover-spec : {M : Type 1} → statement M
 discover-spec =

@@ -9,6 +9,7 @@ use mathlib.Core.Option.{none, some}
 use lib.ListN.{length}
 use Rattle.limits.specs.declared.Refusal.{Refusal}
 use Rattle.limits.specs.declared.Settings.{Settings}
+use Rattle.limits.specs.Refusals.{Numbered}
 use Rattle.limits.specs.Settings.{mostActivities}
 use Rattle.limits.proofs.laws.SettingsRanges.{InRange}
 use Rattle.places.specs.Places.{place}
@@ -24,8 +25,9 @@ use Rattle.discovery_spec.specs.declared.Discovered.{Discovered}
 use Rattle.discovery_spec.specs.declared.Discovered.the-variants.{Ran, Refused}
 use Rattle.discovery_spec.specs.declared.Run.{Run}
 use Rattle.discovery_spec.specs.Search.{start, search}
-use Rattle.discovery_spec.specs.Discovery.{run, runRefusal, discovered, capacityOf, foundAfter, rejectedAfter}
+use Rattle.discovery_spec.specs.Discovery.{run, runRefusal, discovered, discoveredNumber, discoveredValue, replaysIn, capacityOf, foundAfter, rejectedAfter}
 use Rattle.discovery.specs.Standing.{Searchable, stateIn, carriedOn, Leaves}
+use Rattle.discovery_spec.proofs.laws.AnswerLaws.{replays-within, discovered-numbered}
 use Rattle.discovery_spec.proofs.laws.CallChecks.{NotRefused}
 use Rattle.discovery.proofs.laws.OutputsLeft.{rows-whole}
 
@@ -69,6 +71,30 @@ module _ (s : Settings) (text rejected found : List ℕ) (budget : ℕ) where
     pub answer-is : d ≡ discovered s text (capacityOf rejected found budget)
     pub rejected-are : rejected-after ≡ rejectedAfter s text rejected found budget
     pub found-are : found-after ≡ foundAfter s text rejected found budget
+
+  -- these say the rest of the contract, as its clauses stand
+  abbrev pub Contract : Discovered → List ℕ → List ℕ → Type 0
+  Contract d rejected-after found-after =
+      (d ≡ discovered s text (capacityOf rejected found budget))
+      × ((rejected-after ≡ rejectedAfter s text rejected found budget)
+      × ((found-after ≡ foundAfter s text rejected found budget)
+      × (Numbered (runRefusal s text) (discoveredNumber d) (discoveredValue d) × (replaysIn d ≤ budget))))
+
+  pub contract : {d : Discovered} {rejected-after found-after : List ℕ} → Answers d rejected-after found-after → Contract d rejected-after found-after
+  unfolding capacityOf
+  contract {d} a = (
+    a .answer-is,
+    (
+      a .rejected-are,
+      (
+        a .found-are,
+        (
+          discovered-numbered s text (capacityOf rejected found budget) (a .answer-is),
+          replays-within s text (capacityOf rejected found budget) d (a .answer-is),
+        ),
+      ),
+    ),
+  )
 
   pub refused-answers : (r : Refusal) → runRefusal s text ≡ some r → Answers (Refused r) rejected found
   unfolding discovered rejectedAfter foundAfter

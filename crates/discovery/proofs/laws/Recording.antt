@@ -22,7 +22,8 @@ use Rattle.replay_spec.specs.declared.Verdict.the-variants.{Fitting, Underfed, 
 use Rattle.discovery.specs.declared.Ruling.{Ruling}
 use Rattle.discovery.specs.declared.Ruling.the-variants.{Unruled, AsUnderfed, AsOverfed}
 use Rattle.discovery_spec.specs.declared.Run.{Run}
-use Rattle.discovery_spec.specs.Rejected.{mark, rejectedWord, rulesUnderfed, ruledOverfed, ruled}
+use Rattle.replay_spec.specs.Judgement.{mark}
+use Rattle.discovery_spec.specs.Rejected.{markUnit, rejectedWord, rulesUnderfed, ruledOverfed, ruled}
 use Rattle.discovery.specs.Rulings.{rulingOf}
 use Rattle.discovery_spec.specs.Search.{State, Progress, going, stopped, withFound, withRejected, withPruned, proceed, accept, reject, conclude, stateOf, endOf}
 use Rattle.discovery_spec.specs.Discovery.{summary, capacityOf}
@@ -175,7 +176,7 @@ module _ (c : Place) (budget : ℕ) {run : Run} {rejected found : List ℕ} (sta
         rejected
         found
         (record { end = run .end; found = run .found; rejected = run .rejected + 1; replays = run .replays; visits = run .visits })
-        (set rejected (run .rejected) (word c + 4294967296 * mark v))
+        (set rejected (run .rejected) (word c + markUnit * mark v))
         found
         × (leb 2 (mark v) ≡ prunes (after v))
     unfolding stateIn summary withRejected withPruned rejectedWord prunes endOf stateOf
@@ -203,7 +204,7 @@ module _ (c : Place) (budget : ℕ) {run : Run} {rejected found : List ℕ} (sta
             rejected
             found
             (record { end = run .end; found = run .found; rejected = run .rejected + 1; replays = run .replays; visits = run .visits })
-            (set rejected (run .rejected) (word c + 4294967296 * mark v))
+            (set rejected (run .rejected) (word c + markUnit * mark v))
             found
             × (b ≡ prunes (going (cond b (withPruned c stored) stored)))
         go true = (record { answered = counted; rejected-left = kept; found-left = same }, refl)

@@ -1,9 +1,10 @@
 -- What holds of the answer of the search call, whatever the log: it ends with 0, 1 or 2, no more words are found and rejected than there is room for,
--- replays are within the budget and no more than visits, and visits are no more than candidates.
+-- replays are within the budget and no more than visits, and visits are no more than candidates. An answer as defined has the number and the value of
+-- the call's refusal.
 -- Assumes nothing.
 use Prim.Native.Nat.{ℕ, _≤_}
 use native.Mathlib.Omega.{arith}
-use mathlib.Core.Path.{_≡_, sym}
+use mathlib.Core.Path.{_≡_, refl, sym}
 use mathlib.Core.List.{List, [], _∷_}
 use mathlib.Core.Option.{Option, none, some}
 use lib.ListN.{length, length-append}
@@ -11,18 +12,20 @@ use Rattle.foundation.specs.Lists.{foldl}
 use Rattle.foundation.proofs.laws.Booleans.{impossible}
 use Rattle.limits.specs.declared.Refusal.{Refusal}
 use Rattle.limits.specs.declared.Settings.{Settings}
-use Rattle.limits.specs.Refusals.{answer}
+use Rattle.limits.specs.Refusals.{Numbered, answer}
+use Rattle.limits.proofs.laws.AnswerNumbers.{answer-numbered}
 use Rattle.places.specs.declared.Place.{Place}
 use Rattle.places.specs.Places.{word}
 use Rattle.places.specs.Candidates.{candidates}
 use Rattle.event_log_spec.specs.Lines.{framesOf}
 use Rattle.replay_spec.specs.declared.Verdict.{Verdict}
 use Rattle.replay_spec.specs.Judgement.{verdict}
+use Rattle.discovery_spec.specs.declared.Discovered.{Discovered}
 use Rattle.discovery_spec.specs.declared.Discovered.the-variants.{Ran, Refused}
 use Rattle.discovery_spec.specs.declared.Run.{Run}
 use Rattle.discovery_spec.specs.Rejected.{rejectedWord}
 use Rattle.discovery_spec.specs.Search.{Capacity, State, Progress, going, stopped, start, visited, replayedOnce, withFound, withRejected, step, search, endOf, stateOf}
-use Rattle.discovery_spec.specs.Discovery.{run, summary, runRefusal, discovered}
+use Rattle.discovery_spec.specs.Discovery.{run, summary, runRefusal, discovered, discoveredNumber, discoveredValue, replaysIn}
 use Rattle.discovery_spec.proofs.laws.Outcomes.{ReplayOutcome, spent, list-full, accepted, dropped, cached, Outcome, passed, known, replayed, step-outcome}
 use Rattle.discovery_spec.proofs.laws.RunCounts.{run-counts}
 
@@ -90,3 +93,16 @@ answer-within s text room r e =
       visits-candidates = counts .visits-candidates;
     }
     )
+
+-- so an answer's replays are within the budget
+pub replays-within : (s : Settings) (text : List ℕ) (room : Capacity) (d : Discovered) → d ≡ discovered s text room → replaysIn d ≤ room .budget
+unfolding replaysIn
+replays-within s text room (Ran r) e = answer-within s text room r (sym e) .within-budget
+replays-within s text room (Refused r) e = omega arith
+
+-- what is answered as defined has the number and the value of the refusal
+pub discovered-numbered : (s : Settings) (text : List ℕ) (room : Capacity) {d : Discovered} → d ≡ discovered s text room
+    → Numbered (runRefusal s text) (discoveredNumber d) (discoveredValue d)
+unfolding discovered discoveredNumber discoveredValue
+discovered-numbered s text room e =
+    rw e (answer-numbered Refused discoveredNumber discoveredValue (λ r. refl) (λ r. refl) (runRefusal s text) _ refl refl)

@@ -16,7 +16,8 @@ use Rattle.places.proofs.laws.Lighter.{lighter-refl, lighter-trans}
 use Rattle.places.proofs.laws.Words.{Storable, word-small, word-back}
 use Rattle.replay_spec.specs.declared.Verdict.{Verdict}
 use Rattle.replay_spec.specs.declared.Verdict.the-variants.{Fitting, Underfed, Overfed, Both}
-use Rattle.discovery_spec.specs.Rejected.{mark, rejectedWord, markIn, placeIn, rulesUnderfed, rulesOverfed, ruledOverfed}
+use Rattle.replay_spec.specs.Judgement.{mark}
+use Rattle.discovery_spec.specs.Rejected.{rejectedWord, markIn, placeIn, rulesUnderfed, rulesOverfed, ruledOverfed}
 
 -- underfed, alone or with overfed
 abbrev pub isUnderfed : Verdict → Bool

@@ -1,25 +1,20 @@
--- `event_log::check_log` meets its contract: the checks of the bound and of an empty text come first, and then the lines decide.
+-- `event_log::check_log` meets its contract: the check of the bound comes first, and then the text decides.
 -- Assumes nothing.
 use mathlib.Core.Path.{sym, _∙_}
-use native.Mathlib.Omega.{arith}
 use borrow.Author.Needs.{needs}
 use borrow.Author.Tests.{not-true, not-false}
-use Rattle.event_log_spec.proofs.laws.LogChecks.{bound-refused, empty-refused}
-use Rattle.event_log.proofs.laws.LogPass.{lines-checked}
+use Rattle.event_log_spec.proofs.laws.LogChecks.{bound-refused, checked-numbered}
+use Rattle.event_log.proofs.laws.LogPass.{text-decides}
 use Rattle.event_log.proofs.check_log.Statement.{statement}
 use Rattle.event_log.proofs.check_log.Tie as tie
 
 returns : tie.Need-returns
-returns c = sym (bound-refused _ _ (sym (c .before .bound-in-range .ensures) ∙ not-true _ (c .if1 .taken)))
+returns c = checked-numbered _ _ (sym (bound-refused _ _ (sym (c .before .bound-in-range .ensures) ∙ not-true _ (c .if1 .taken))))
 
 returns-2 : tie.Need-returns-2
 returns-2 c =
-    let a = c .before .before .before .before .args in
-    sym (empty-refused (a .activities) (a .text .now) (sym (c .before .before .bound-in-range .ensures) ∙ not-false _ (c .before .if1 .left)) (omega arith))
-
-returns-3 : tie.Need-returns-3
-returns-3 c =
-    c .check-lines .ensures ∙ sym (lines-checked _ _ (sym (c .before .before .before .bound-in-range .ensures) ∙ not-false _ (c .before .before .if1 .left)) (omega arith))
+    let u = c .before .before in
+    checked-numbered _ _ (c .check-text .ensures ∙ sym (text-decides _ _ (sym (u .bound-in-range .ensures) ∙ not-false _ (c .before .if1 .left))))
 
 pub check-log-spec : {M : Type 1} → statement M
 check-log-spec =
@@ -27,6 +22,5 @@ check-log-spec =
     (tie.spec
     (λ c κs. search needs)  -- bound-in-range-requires
     returns
-    returns-2
-    (λ c κs. search needs)  -- check-lines-requires
-    returns-3)
+    (λ c κs. search needs)  -- check-text-requires
+    returns-2)

@@ -14,25 +14,34 @@ use lib.ListN.{length, drop, drop-of-length-le, length-drop, length-map}
 use lib.Seq.{drop-drop}
 use Rattle.foundation.proofs.laws.Booleans.{impossible}
 use Rattle.limits.specs.declared.Refusal.{Refusal}
-use Rattle.limits.specs.Refusals.{answer}
+use Rattle.limits.specs.declared.Refusal.the-variants.{EmptyLog}
+use Rattle.limits.specs.Refusals.{firstRefusal, answer}
 use Rattle.limits.specs.Settings.{boundInRange}
 use Rattle.event_log_spec.specs.declared.Checked.{Checked}
 use Rattle.event_log_spec.specs.declared.Checked.the-variants.{Accepted, Refused}
 use Rattle.log_lines.specs.declared.LineChecked.the-variants.{Sound, Faulty}
 use Rattle.event_log_spec.specs.Frames.{countDigits, mostFrames, totalCases}
 use Rattle.event_log_spec.specs.Lines.{Line, lines, firstLine, frameOf, framesOf}
-use Rattle.event_log_spec.specs.Checking.{lineFault, linesFault, textFault, checked}
+use Rattle.event_log_spec.specs.Checking.{lineFault, linesFault, emptyFault, textFault, logRefusal, checked}
 use Rattle.log_lines.specs.Reading.{lineChecked}
-use Rattle.event_log.specs.Pass.{linesChecked}
+use Rattle.event_log.specs.Pass.{textChecked, linesChecked}
 use Rattle.event_log_spec.proofs.laws.Lines.{lines-step}
 use Rattle.limits.proofs.laws.FirstOf.{only-one}
 use Rattle.event_log_spec.proofs.laws.FrameLines.{no-fault-framed}
 use Rattle.event_log_spec.proofs.laws.LogChecks.{bound-passes, lines-decide}
 
--- checking a log of some byte under a bound in its range is checking its lines
-pub lines-checked : (A : ℕ) (text : List ℕ) → boundInRange A ≡ true → 1 ≤ length text → checked A text ≡ linesChecked A text
-unfolding checked linesChecked
-lines-checked A text in-range some-byte = rw (bound-passes A .1 in-range, lines-decide A text some-byte)
+-- checking a log under a bound in its range is checking its text, and checking a text of some byte is checking its lines
+pub text-decides : (A : ℕ) (text : List ℕ) → boundInRange A ≡ true → checked A text ≡ textChecked A text
+unfolding checked textChecked
+text-decides A text in-range = rw (bound-passes A .1 in-range)
+
+pub text-empty : (A : ℕ) (text : List ℕ) → length text ≡ 0 → textChecked A text ≡ Refused EmptyLog
+unfolding textChecked logRefusal firstRefusal emptyFault
+text-empty A text e = rw e
+
+pub lines-checked : (A : ℕ) (text : List ℕ) → 1 ≤ length text → textChecked A text ≡ linesChecked A text
+unfolding textChecked linesChecked
+lines-checked A text some-byte = rw (lines-decide A text some-byte)
 
 -- what a pass answers that stands before these lines, with `line` lines and `cases` cases behind it
 unfoldable pub pass : ℕ → ℕ → ℕ → List Line → Checked

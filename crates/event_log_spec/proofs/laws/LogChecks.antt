@@ -14,11 +14,13 @@ use lib.ListN.{length}
 use Rattle.foundation.proofs.laws.Booleans.{impossible}
 use Rattle.limits.specs.declared.Refusal.{Refusal}
 use Rattle.limits.specs.declared.Refusal.the-variants.{InvalidSetting, EmptyLog}
-use Rattle.limits.specs.Refusals.{firstRefusal, answer}
+use Rattle.limits.specs.Refusals.{firstRefusal, Numbered, answer}
 use Rattle.limits.specs.Settings.{boundInRange, boundFault}
 use Rattle.event_log_spec.specs.declared.Checked.the-variants.{Accepted, Refused}
-use Rattle.event_log_spec.specs.Checking.{emptyFault, textFault, logRefusal, checked}
-use Rattle.limits.proofs.laws.FirstOf.{given-none, only-one, first-none}
+use Rattle.event_log_spec.specs.declared.Checked.{Checked}
+use Rattle.event_log_spec.specs.Checking.{emptyFault, textFault, logRefusal, checked, checkedNumber, checkedValue}
+use Rattle.limits.proofs.laws.FirstOf.{given-none, first-alone, first-none}
+use Rattle.limits.proofs.laws.AnswerNumbers.{answer-numbered}
 
 pub bound-passes : (A : ℕ) → (boundFault A ≡ none) ↔ (boundInRange A ≡ true)
 unfolding boundFault
@@ -41,20 +43,21 @@ pub record LogPasses (settings places : Option Refusal) (A : ℕ) (text : List �
 module _ (A : ℕ) (text : List ℕ) where
   pub lines-decide : 1 ≤ length text → logRefusal none none A text ≡ textFault A text
   unfolding logRefusal firstRefusal
-  lines-decide some-byte = rw (some-byte-passes text .1 some-byte) (only-one (textFault A text))
+  lines-decide some-byte = rw (some-byte-passes text .1 some-byte) (first-alone (textFault A text))
 
   module _ (settings places : Option Refusal) where
     passes : logRefusal settings places A text ≡ none → LogPasses settings places A text
     unfolding logRefusal firstRefusal
     passes e =
-        let parts₁ = first-none settings (places ∷ none ∷ emptyFault text ∷ textFault A text ∷ []) e in
-        let parts₂ = first-none places (none ∷ emptyFault text ∷ textFault A text ∷ []) (parts₁ .1) in
-        let parts₃ = first-none (emptyFault text) (textFault A text ∷ []) (parts₂ .1) in
+        let text-checks = emptyFault text ∷ textFault A text ∷ none ∷ [] in
+        let parts₁ = first-none settings (none ∷ places ∷ none ∷ none ∷ text-checks) e in
+        let parts₂ = first-none places (none ∷ none ∷ text-checks) (parts₁ .1) in
+        let parts₃ = first-none (emptyFault text) (textFault A text ∷ none ∷ []) (parts₂ .1) in
         record {
           settings-pass = parts₁ .0;
           places-pass = parts₂ .0;
           some-byte = some-byte-passes text .0 (parts₃ .0);
-          lines-pass = first-none (textFault A text) [] (parts₃ .1) .0;
+          lines-pass = first-none (textFault A text) (none ∷ []) (parts₃ .1) .0;
         }
 
     pub log-passes : (logRefusal settings places A text ≡ none) ↔ LogPasses settings places A text
@@ -80,3 +83,12 @@ pub answer-accepted : (o : Option Refusal) (n N m M : ℕ) → answer Refused o 
     → (o ≡ none) × (Accepted n N ≡ Accepted m M)
 answer-accepted none n N m M e = (refl, e)
 answer-accepted (some s) n N m M e = impossible (cc)
+
+-- what is answered as defined has the number and the value of the refusal
+pub checked-numbered : (A : ℕ) (text : List ℕ) {r : Checked} → r ≡ checked A text
+    → (r ≡ checked A text) × Numbered (logRefusal (boundFault A) none A text) (checkedNumber r) (checkedValue r)
+unfolding checked checkedNumber checkedValue
+checked-numbered A text e = (
+  e,
+  rw e (answer-numbered Refused checkedNumber checkedValue (λ r. refl) (λ r. refl) (logRefusal (boundFault A) none A text) _ refl refl),
+)

@@ -16,6 +16,11 @@ pub only-one : (o : Option Refusal) → firstOf (o ∷ []) ≡ o
 only-one none = refl
 only-one (some r) = refl
 
+-- what follows it gives nothing
+pub first-alone : (o : Option Refusal) → firstOf (o ∷ none ∷ []) ≡ o
+first-alone none = refl
+first-alone (some r) = refl
+
 pub first-none : (o : Option Refusal) (later : List (Option Refusal)) → firstOf (o ∷ later) ≡ none → (o ≡ none) × (firstOf later ≡ none)
 first-none none later e = (refl, e)
 first-none (some r) later e = absurd (Option·some-ne-none r e)

@@ -1,24 +1,40 @@
 -- What follows the answer of the search: a refusal and a run that stopped are handed on, with the further buffer as it was; what a completed run found is
--- reduced into that buffer.
+-- reduced into that buffer. The number and the value of the answer are those of the search's refusal or of the reduction's.
 -- Assumes nothing.
 use Prim.Native.Nat.{ℕ, _-_, _≤_}
 use native.Mathlib.Nat.{sub-zero}
-use mathlib.Core.Path.{_≡_, sym, ap, ap₂, _∙_}
+use mathlib.Core.Path.{_≡_, refl, sym, ap, ap₂, _∙_}
 use mathlib.Core.List.{List}
 use borrow.Author.Tests.{eq-eqb, ne-eqb}
+use lib.Dec.{eqb}
 use lib.ListN.{length, take}
+use Rattle.foundation.proofs.laws.Booleans.{by-test}
 use Rattle.limits.specs.declared.Refusal.{Refusal}
 use Rattle.limits.specs.declared.Settings.{Settings}
+use Rattle.limits.specs.Refusals.{numberGiven, valueGiven, Numbered}
 use Rattle.discovery_spec.specs.declared.Discovered.{Discovered}
 use Rattle.discovery_spec.specs.declared.Discovered.the-variants as Answered
 use Rattle.discovery_spec.specs.declared.Run.{Run}
+use Rattle.discovery_spec.specs.Search.{completed}
 use Rattle.discovery_spec.specs.Discovery.{discovered, capacityOf, foundAfter, rejectedAfter}
 use Rattle.discovery_spec.proofs.laws.AnswerLaws.{answer-within}
 use Rattle.reduction_spec.specs.declared.Reduced.{Reduced}
 use Rattle.reduction_spec.specs.Reduction.{reduced, reducedAfter}
+use Rattle.reduction_spec.proofs.laws.Reducing.{reduced-numbered}
 use Rattle.listing.specs.declared.Listing.{Listing}
 use Rattle.listing.specs.declared.Listing.the-variants.{Refused, Incomplete, Complete}
-use Rattle.listing.specs.Listing.{Resources, foundIn, listingOf, keptOf, searched, rejectedLeft, foundLeft, keptLeft, listing, GoesAsWritten}
+use Rattle.listing.specs.Listing.{Resources, foundIn, listingOf, refusalOf, listingNumber, listingValue, keptOf, searched, rejectedLeft, foundLeft, keptLeft, listing, GoesAsWritten}
+
+-- an answer has the number and the value of what was refused, by what the search answered
+listing-numbered : (d : Discovered) (found : List ℕ) (room : ℕ)
+    → let answer = listingOf d found room in Numbered (refusalOf d found room) (listingNumber answer) (listingValue answer)
+unfolding refusalOf listingOf listingNumber listingValue numberGiven valueGiven
+listing-numbered (Answered.Refused r) found room = record { number-given = refl; value-given = refl }
+listing-numbered (Answered.Ran run) found room =
+    by-test
+    (eqb (run .end) completed)
+    (λ e. rw e (reduced-numbered (foundIn run found) room refl))
+    (λ e. rw e (record { number-given = refl; value-given = refl }))
 
 module _ (s : Settings) (text : List ℕ) (resources : Resources) where
   -- what the search answered and left is what it is to
@@ -32,11 +48,13 @@ module _ {s : Settings} {text : List ℕ} {resources : Resources} {d : Discovere
       → GoesAsWritten s text resources answer rejected found kept
   unfolding searched rejectedLeft foundLeft keptLeft listing
   returned answer kept e f =
+      let answers = e ∙ ap₂ (λ (x : Discovered) (l : List ℕ). listingOf x l (length (resources .kept))) (h .answers) (h .finds) in
       record {
-        answers = e ∙ ap₂ (λ (x : Discovered) (l : List ℕ). listingOf x l (length (resources .kept))) (h .answers) (h .finds);
+        answers = answers;
         leaves-rejected = h .rejects;
         leaves-found = h .finds;
         leaves-kept = f ∙ ap₂ (λ (x : Discovered) (l : List ℕ). keptOf x l (resources .kept)) (h .answers) (h .finds);
+        numbered = rw answers (listing-numbered _ _ (length (resources .kept)));
       }
 
   pub search-refused : (r : Refusal) → d ≡ Answered.Refused r → GoesAsWritten s text resources (Refused r) rejected found (resources .kept)

@@ -17,7 +17,7 @@ after-search : (c : tie.After-discover)
     (c .discover .result)
     (c .discover .last .1 .1 .1 .0)
     (c .discover .last .1 .1 .1 .1 .0)
-after-search c = record { answers = c .discover .ensures .0; rejects = c .discover .ensures .1 .0; finds = c .discover .ensures .1 .1 }
+after-search c = record { answers = c .discover .ensures .0; rejects = c .discover .ensures .1 .0; finds = c .discover .ensures .1 .1 .0 }
 
 returns-3 : tie.Need-returns-3
 returns-3 c =
@@ -32,7 +32,7 @@ returns-3 c =
     _
     _
     (reduction .0)
-    (reduction .1)
+    (reduction .1 .0)
 
 pub list-places-spec : {M : Type 1} → statement M
 list-places-spec =

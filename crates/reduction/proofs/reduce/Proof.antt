@@ -11,7 +11,7 @@ use Rattle.places.specs.Places.{wordsFault}
 use Rattle.places.proofs.laws.ListFaults.{all-valid}
 use Rattle.reduction_spec.specs.Cover.{Listable}
 use Rattle.reduction_spec.specs.declared.Reduced.the-variants.{Kept}
-use Rattle.reduction_spec.proofs.laws.Reducing.{reduced-kept, kept-written, invalid-refused, short-refused}
+use Rattle.reduction_spec.proofs.laws.Reducing.{reduced-kept, kept-written, invalid-refused, short-refused, reduced-numbered}
 use Rattle.reduction.proofs.reduce.Statement.{statement}
 use Rattle.reduction.proofs.reduce.Tie as tie
 
@@ -28,13 +28,13 @@ returns c =
     let a = c .before .before .before .before .args in
     let first = c .before .first-invalid in
     let refused = invalid-refused (a .words .now) (a .kept .now) (first .result) (first .ensures .1 ∙ rw (lt-ltb (first .result) _ (c .if1 .taken)) refl) in
-    (sym (refused .answers), sym (refused .leaves))
+    (sym (refused .answers), (sym (refused .leaves), reduced-numbered _ _ (sym (refused .answers))))
 
 returns-2 : tie.Need-returns-2
 returns-2 c =
     let a = c .before .before .before .before .before .args in
     let refused = short-refused (a .words .now) (a .kept .now) (no-fault (c .before)) (c .if2 .taken) in
-    (sym (refused .answers), sym (refused .leaves))
+    (sym (refused .answers), (sym (refused .leaves), reduced-numbered _ _ (sym (refused .answers))))
 
 keep-irredundant-requires : tie.Need-keep-irredundant-requires
 keep-irredundant-requires c κs = (listable-checked _ (no-fault (c .before .before)), c .before .if2 .left)
@@ -44,10 +44,9 @@ returns-3 c =
     let k = c .before .before in
     let a = k .before .before .before .before .before .before .before .args in
     let listable = listable-checked (a .words .now) (no-fault (k .before .before .before)) in
-    let enough = k .before .before .if2 .left in (
-      ap Kept (k .keep-irredundant .ensures .0) ∙ sym (reduced-kept (a .words .now) listable _ enough),
-      k .keep-irredundant .ensures .1 ∙ sym (kept-written (a .words .now) listable (a .kept .now) enough),
-    )
+    let enough = k .before .before .if2 .left in
+    let answers = ap Kept (k .keep-irredundant .ensures .0) ∙ sym (reduced-kept (a .words .now) listable _ enough) in
+    (answers, (k .keep-irredundant .ensures .1 ∙ sym (kept-written (a .words .now) listable (a .kept .now) enough), reduced-numbered _ _ answers))
 
 pub reduce-spec : {M : Type 1} → statement M
 reduce-spec = tie.close (tie.spec (λ c κs. search needs) returns returns-2 keep-irredundant-requires (λ c. search needs) returns-3)

@@ -1,10 +1,9 @@
--- `replay::check_arguments` meets its contract: its tests are the checks, in their order, and after them the lines decide.
+-- `replay::check_arguments` meets its contract: its tests are the checks, in their order, and after them the text decides.
 -- Assumes nothing.
 use mathlib.Core.Path.{sym, _∙_}
-use native.Mathlib.Omega.{arith}
 use borrow.Author.Needs.{needs}
 use borrow.Author.Tests.{not-true, not-false}
-use Rattle.replay.proofs.laws.Arguments.{setting-refused, place-refused, empty-refused, lines-decided}
+use Rattle.replay.proofs.laws.Arguments.{setting-refused, place-refused, text-decides}
 use Rattle.replay.proofs.check_arguments.Statement.{statement}
 use Rattle.replay.proofs.check_arguments.Tie as tie
 
@@ -19,30 +18,15 @@ returns-2 c =
 returns-3 : tie.Need-returns-3
 returns-3 c =
     let u = c .before .before in
-    let a = u .before .before .before .args in
-    sym
-    (empty-refused
-    (a .activities)
-    (a .in-range)
-    (a .text .now)
-    (a .place)
-    (not-false _ (u .before .if1 .left))
-    (sym (u .place-under .ensures) ∙ not-false _ (c .before .if2 .left))
-    (omega arith))
-
-returns-4 : tie.Need-returns-4
-returns-4 c =
-    let u = c .before .before .before in
-    c .check-lines .ensures
+    c .check-text .ensures
     ∙ sym
-    (lines-decided
+    (text-decides
     _
     _
     _
     _
     (not-false _ (u .before .if1 .left))
-    (sym (u .place-under .ensures) ∙ not-false _ (c .before .before .if2 .left))
-    (omega arith))
+    (sym (u .place-under .ensures) ∙ not-false _ (c .before .if2 .left)))
 
 pub check-arguments-spec : {M : Type 1} → statement M
 check-arguments-spec =
@@ -51,6 +35,5 @@ check-arguments-spec =
     returns
     (λ c κs. search needs)  -- place-under-requires
     returns-2
-    returns-3
-    (λ c κs. search needs)  -- check-lines-requires
-    returns-4)
+    (λ c κs. search needs)  -- check-text-requires
+    returns-3)

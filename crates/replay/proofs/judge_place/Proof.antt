@@ -13,6 +13,7 @@ use Rattle.event_log_spec.specs.Lines.{framesOf}
 use Rattle.event_log_spec.proofs.laws.Written.{bound-most}
 use Rattle.event_log_spec.proofs.laws.WiderBound.{log-wider}
 use Rattle.event_log.proofs.laws.FrameIndex.{stored-room, stored-index}
+use Rattle.replay_spec.proofs.laws.AnswerLaws.{judged-numbered}
 use Rattle.replay.proofs.laws.Arguments.{Passed, accepted, judge-refused, judge-accepted}
 use Rattle.replay.proofs.laws.FrameByFrame.{verdict-counted, counts-bounded}
 use Rattle.replay.proofs.judge_place.Statement.{statement}
@@ -65,13 +66,15 @@ verdict-on-requires c κs = (small (told c), rw (c .count-cases .ensures) (count
 returns : tie.Need-returns
 returns c =
     let k = c .before .before .before in
-    judge-refused _ _ _ _ _
-    (rw (k .before .bound-and-threshold-in-range .ensures) at (sym (k .check-arguments .ensures) ∙ c .before .refusal .given .1))
+    judged-numbered _ _ _ _
+    (judge-refused _ _ _ _ _
+    (rw (k .before .bound-and-threshold-in-range .ensures) at (sym (k .check-arguments .ensures) ∙ c .before .refusal .given .1)))
 
 returns-2 : tie.Need-returns-2
 returns-2 c =
     let k = c .before in
-    rw (c .verdict-on .ensures, k .count-cases .ensures, verdict-counted _ _ _) (judge-accepted _ _ _ _ (passed (told k)))
+    judged-numbered _ _ _ _
+    (rw (c .verdict-on .ensures, k .count-cases .ensures, verdict-counted _ _ _) (judge-accepted _ _ _ _ (passed (told k))))
 
 pub judge-place-spec : {M : Type 1} → statement M
 judge-place-spec =

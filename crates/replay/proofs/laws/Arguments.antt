@@ -1,7 +1,7 @@
 -- The arguments of a call on a log and a place: the first check that gives a refusal decides, and where they all pass, the text is a log under the
 -- activity bound.
 -- Assumes nothing.
-use Prim.Native.Nat.{ℕ, _≤_}
+use Prim.Native.Nat.{ℕ}
 use mathlib.Core.Path.{_≡_}
 use mathlib.Core.Bool.{Bool, true, false, not, _&&_}
 use mathlib.Core.List.{List}
@@ -9,7 +9,7 @@ use mathlib.Core.Option.{Option, none, some}
 use borrow.Author.Tests.{not-false}
 use lib.ListN.{length}
 use Rattle.limits.specs.declared.Refusal.{Refusal}
-use Rattle.limits.specs.declared.Refusal.the-variants.{InvalidSetting, EmptyLog, InvalidPlace}
+use Rattle.limits.specs.declared.Refusal.the-variants.{InvalidSetting, InvalidPlace}
 use Rattle.limits.specs.Refusals.{given, firstRefusal}
 use Rattle.limits.specs.Settings.{boundInRange, thresholdInRange, boundFault, boundAndThresholdFault}
 use Rattle.places.specs.declared.Place.{Place}
@@ -17,10 +17,10 @@ use Rattle.places.specs.Places.{placeUnder, placeFault}
 use Rattle.event_log_spec.specs.declared.Checked.the-variants.{Accepted, Refused}
 use Rattle.event_log_spec.specs.Frames.{WrittenLog, totalCases}
 use Rattle.event_log_spec.specs.Lines.{framesOf}
-use Rattle.event_log_spec.specs.Checking.{emptyFault, logRefusal}
-use Rattle.event_log.specs.Pass.{linesChecked}
+use Rattle.event_log_spec.specs.Checking.{logRefusal}
+use Rattle.event_log.specs.Pass.{textChecked}
 use Rattle.limits.proofs.laws.FirstOf.{given-none}
-use Rattle.event_log_spec.proofs.laws.LogChecks.{lines-decide, log-passes, answer-refused, answer-accepted}
+use Rattle.event_log_spec.proofs.laws.LogChecks.{log-passes, answer-refused, answer-accepted}
 use Rattle.event_log_spec.proofs.laws.Written.{text-written}
 use Rattle.replay_spec.specs.declared.Judged.the-variants.{Counted}
 use Rattle.replay_spec.specs.declared.Judged.the-variants as JudgedAs
@@ -41,13 +41,9 @@ module _ (A : ℕ) (in-range : Bool) (text : List ℕ) (p : Place) where
     unfolding argumentsChecked logRefusal firstRefusal placeFault
     place-refused e = rw (settings, e)
 
-    pub empty-refused : placeUnder A p ≡ true → length text ≡ 0 → argumentsChecked A in-range text p ≡ Refused EmptyLog
-    unfolding argumentsChecked logRefusal firstRefusal placeFault emptyFault
-    empty-refused under e = rw (settings, under, e)
-
-    pub lines-decided : placeUnder A p ≡ true → 1 ≤ length text → argumentsChecked A in-range text p ≡ linesChecked A text
-    unfolding argumentsChecked linesChecked placeFault
-    lines-decided under some-byte = rw (settings, under, lines-decide A text some-byte)
+    pub text-decides : placeUnder A p ≡ true → argumentsChecked A in-range text p ≡ textChecked A text
+    unfolding argumentsChecked textChecked placeFault
+    text-decides under = rw (settings, under)
 
   -- the refusal of the call
   abbrev refusal : Option Refusal

@@ -10,6 +10,7 @@ use Rattle.event_log_spec.proofs.laws.Written.{bound-most}
 use Rattle.event_log_spec.proofs.laws.WiderBound.{log-wider}
 use Rattle.limits.specs.Settings.{boundInRange}
 use Rattle.replay_spec.specs.declared.Replayed.the-variants.{Balances}
+use Rattle.replay_spec.proofs.laws.AnswerLaws.{replayed-numbered}
 use Rattle.replay.proofs.laws.Arguments.{Passed, accepted, replay-refused, replay-accepted}
 use Rattle.replay.proofs.laws.FirstFrame.{FirstDigits, first-digits}
 use Rattle.replay.proofs.replay_first_trace.Statement.{statement}
@@ -43,15 +44,17 @@ replay-trace-requires c κs =
 returns : tie.Need-returns
 returns c =
     let k = c .before .before .before in
-    replay-refused _ _ _ _ (rw (k .before .bound-in-range .ensures) at (sym (k .check-arguments .ensures) ∙ c .before .refusal .given .1))
+    replayed-numbered _ _ _
+    (replay-refused _ _ _ _ (rw (k .before .bound-in-range .ensures) at (sym (k .check-arguments .ensures) ∙ c .before .refusal .given .1)))
 
 returns-2 : tie.Need-returns-2
 returns-2 c =
     let t = c .before in
     let e = t .before .before .before in
     let r = t .replay-trace .result in
-    ap₂ Balances (toZ-ofZ w16 (r .least) (search needs)) (toZ-ofZ w16 (r .balance) (search needs))
-    ∙ rw (t .replay-trace .ensures _ (t .before .digit-sets .ensures), e .trace-end .ensures, digits (e .before) .trace) (replay-accepted _ _ _ (passed (e .before)))
+    replayed-numbered _ _ _
+    (ap₂ Balances (toZ-ofZ w16 (r .least) (search needs)) (toZ-ofZ w16 (r .balance) (search needs))
+    ∙ rw (t .replay-trace .ensures _ (t .before .digit-sets .ensures), e .trace-end .ensures, digits (e .before) .trace) (replay-accepted _ _ _ (passed (e .before))))
 
 pub replay-first-trace-spec : {M : Type 1} → statement M
 replay-first-trace-spec =

@@ -1,5 +1,6 @@
 -- What holds of the answers of replaying and judging, whatever was asked: the balances keep the ranges of document 01, and the four case counts add
--- up to N. An answer that is no refusal is of an accepted log, whose traces are short and whose cases are all counted.
+-- up to N. An answer that is no refusal is of an accepted log, whose traces are short and whose cases are all counted. An answer as defined has
+-- the number and the value of the call's refusal.
 -- Assumes nothing.
 use Prim.Native.Nat.{ℕ, _≤_}
 use mathlib.Core.Path.{_≡_, refl, sym}
@@ -12,7 +13,8 @@ use Rattle.foundation.specs.Lists.{Each}
 use Rattle.foundation.proofs.laws.Booleans.{impossible}
 use Rattle.foundation.proofs.laws.Lists.{each-head}
 use Rattle.limits.specs.declared.Refusal.{Refusal}
-use Rattle.limits.specs.Refusals.{answer}
+use Rattle.limits.specs.Refusals.{Numbered, answer}
+use Rattle.limits.proofs.laws.AnswerNumbers.{answer-numbered}
 use Rattle.limits.specs.Settings.{boundFault, boundAndThresholdFault}
 use Rattle.places.specs.declared.Place.{Place}
 use Rattle.places.specs.Places.{placeFault}
@@ -22,14 +24,16 @@ use Rattle.event_log_spec.specs.Checking.{logRefusal}
 use Rattle.event_log_spec.proofs.laws.LogChecks.{log-passes}
 use Rattle.event_log_spec.proofs.laws.Written.{text-written}
 use Rattle.replay_spec.specs.declared.CaseCounts.{CaseCounts}
+use Rattle.replay_spec.specs.declared.Judged.{Judged}
 use Rattle.replay_spec.specs.declared.Judged.the-variants.{Counted}
 use Rattle.replay_spec.specs.declared.Judged.the-variants as JudgedAs
+use Rattle.replay_spec.specs.declared.Replayed.{Replayed}
 use Rattle.replay_spec.specs.declared.Replayed.the-variants.{Balances}
 use Rattle.replay_spec.specs.declared.Replayed.the-variants as ReplayedAs
 use Rattle.replay_spec.specs.declared.Verdict.{Verdict}
 use Rattle.replay_spec.specs.Balance.{leastBalance, lastBalance}
 use Rattle.replay_spec.specs.Judgement.{caseCounts, casesOf, verdict}
-use Rattle.replay_spec.specs.Answers.{firstTrace, replayed, judged}
+use Rattle.replay_spec.specs.Answers.{firstTrace, replayed, judged, replayedNumber, replayedValue, judgedNumber, judgedValue}
 use Rattle.replay_spec.proofs.laws.Extremes.{Ranges, ranges}
 use Rattle.replay_spec.proofs.laws.Counts.{counts-add-up}
 
@@ -77,3 +81,20 @@ module _ (A T : ℕ) (text : List ℕ) (p : Place) where
 
   pub judged-adds-up : (c : CaseCounts) (v : Verdict) → judged A T text p ≡ Counted c v → casesOf c ≡ totalCases (framesOf text)
   judged-adds-up c v e = rw (sym (judged-counts c v e)) (counts-add-up p (framesOf text))
+
+-- what is answered as defined has the number and the value of the refusal
+pub replayed-numbered : (A : ℕ) (text : List ℕ) (p : Place) {r : Replayed} → r ≡ replayed A text p
+    → (r ≡ replayed A text p) × Numbered (logRefusal (boundFault A) (placeFault A 0 p) A text) (replayedNumber r) (replayedValue r)
+unfolding replayed replayedNumber replayedValue
+replayed-numbered A text p e = (
+  e,
+  rw e (answer-numbered ReplayedAs.Refused replayedNumber replayedValue (λ r. refl) (λ r. refl) _ _ refl refl),
+)
+
+pub judged-numbered : (A T : ℕ) (text : List ℕ) (p : Place) {r : Judged} → r ≡ judged A T text p
+    → (r ≡ judged A T text p) × Numbered (logRefusal (boundAndThresholdFault A T) (placeFault A 0 p) A text) (judgedNumber r) (judgedValue r)
+unfolding judged judgedNumber judgedValue
+judged-numbered A T text p e = (
+  e,
+  rw e (answer-numbered JudgedAs.Refused judgedNumber judgedValue (λ r. refl) (λ r. refl) _ _ refl refl),
+)

@@ -1,21 +1,22 @@
 -- Words that each stand for a place, with a buffer that has room for 9 bytes a place, are written: the answer is the bytes of their lines, which then
 -- stand in front of the buffer. Other calls are refused, for the first word that stands for no place or else for want of room, and leave the buffer
--- as it was.
+-- as it was. An answer has the number and the value of the call's refusal.
 -- Assumes nothing.
 use Prim.Native.Nat.{ℕ, _*_, _≤_, _<_}
 use mathlib.Core.Path.{_≡_, refl}
 use mathlib.Core.List.{List}
-use mathlib.Core.Option.{none, some}
+use mathlib.Core.Option.{Option, none, some}
 use borrow.Author.Tests.{lt-ltb, le-ltb}
 use lib.ListN.{length}
 use Rattle.foundation.specs.Buffers.{overwrite}
 use Rattle.limits.specs.declared.Refusal.{Refusal}
 use Rattle.limits.specs.declared.Refusal.the-variants.{InvalidPlace, BufferTooSmall}
-use Rattle.limits.specs.Refusals.{firstRefusal}
+use Rattle.limits.specs.Refusals.{firstRefusal, Numbered, answer}
+use Rattle.limits.proofs.laws.AnswerNumbers.{answer-numbered}
 use Rattle.places.specs.Places.{wordsFault, wordsRefusal}
 use Rattle.writer.specs.declared.Written.{Written}
 use Rattle.writer.specs.declared.Written.the-variants.{Bytes, Refused}
-use Rattle.writer.specs.Writing.{listText, writingRefusal, written, writtenAfter}
+use Rattle.writer.specs.Writing.{listText, writingRefusal, written, writtenNumber, writtenValue, writtenAfter}
 
 -- what a call answers, and what it leaves in the buffer
 pub record WrittenAs (words before : List ℕ) (answer : Written) (after : List ℕ) : Type 0 where
@@ -45,3 +46,20 @@ module _ (words before : List ℕ) where
     lines-written enough =
         let passes = le-ltb (length before) (9 * length words) enough in
         record { answers = rw (valid, passes); leaves = rw (valid, passes) }
+
+-- an answer that is a refusal or a number of bytes has the number and the value of that refusal
+pub bytes-numbered : (refusal : Option Refusal) (count : ℕ)
+    → let r = answer Refused refusal (Bytes count) in Numbered refusal (writtenNumber r) (writtenValue r)
+unfolding writtenNumber writtenValue
+bytes-numbered refusal count =
+    answer-numbered Refused writtenNumber writtenValue (λ r. refl) (λ r. refl) refusal (Bytes count) refl refl
+
+-- what the contract of the call says, from what it answers and leaves
+pub contract : {words before : List ℕ} {r : Written} {after : List ℕ} → WrittenAs words before r after
+    → (r ≡ written words (length before))
+    × ((after ≡ writtenAfter words before) × Numbered (writingRefusal words (length before)) (writtenNumber r) (writtenValue r))
+unfolding written
+contract {words} {before} made = (
+  made .answers,
+  (made .leaves, rw (made .answers) (bytes-numbered (writingRefusal words (length before)) (length (listText words)))),
+)

@@ -8,7 +8,7 @@ use borrow.Author.Needs.{needs}
 use borrow.Author.Tests.{lt-ltb, le-ltb}
 use Rattle.places.specs.Places.{wordsFault}
 use Rattle.writer.specs.declared.Written.the-variants.{Bytes}
-use Rattle.writer.proofs.laws.Refusals.{invalid-refused, short-refused, lines-written}
+use Rattle.writer.proofs.laws.Refusals.{invalid-refused, short-refused, lines-written, contract}
 use Rattle.writer.proofs.write_places.Statement.{statement}
 use Rattle.writer.proofs.write_places.Tie as tie
 
@@ -20,21 +20,24 @@ returns : tie.Need-returns
 returns c =
     let a = c .before .before .before .before .args in
     let first = c .before .first-invalid in
-    let refused = invalid-refused (a .words .now) (a .text .now) (first .result) (first .ensures .1 ∙ rw (lt-ltb (first .result) _ (c .if1 .taken)) refl) in
-    (refused .answers, refused .leaves)
+    contract
+    (invalid-refused (a .words .now) (a .text .now) (first .result) (first .ensures .1 ∙ rw (lt-ltb (first .result) _ (c .if1 .taken)) refl))
 
 returns-2 : tie.Need-returns-2
 returns-2 c =
     let a = c .before .before .before .before .before .args in
-    let refused = short-refused (a .words .now) (a .text .now) (no-fault (c .before)) (omega (arith, c .if2 .taken)) in
-    (refused .answers, refused .leaves)
+    contract (short-refused (a .words .now) (a .text .now) (no-fault (c .before)) (omega (arith, c .if2 .taken)))
 
 returns-3 : tie.Need-returns-3
 returns-3 c =
     let w = c .before .before in
     let a = w .before .before .before .before .before .before .before .args in
     let made = lines-written (a .words .now) (a .text .now) (no-fault (w .before .before .before)) (omega (arith, w .before .before .if2 .left)) in
-    (ap Bytes (w .write-lines .ensures .0) ∙ made .answers, w .write-lines .ensures .1 ∙ made .leaves)
+    contract
+    (record {
+      answers = ap Bytes (w .write-lines .ensures .0) ∙ made .answers;
+      leaves = w .write-lines .ensures .1 ∙ made .leaves;
+    })
 
 pub write-places-spec : {M : Type 1} → statement M
 write-places-spec =

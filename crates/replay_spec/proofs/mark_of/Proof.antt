@@ -1,9 +1,9 @@
--- `discovery::mark_of` meets its contract: each arm knows the verdict, and has its mark.
+-- `replay_spec::mark_of` meets its contract: each arm knows the verdict, and has its mark.
 -- Assumes nothing.
 use borrow.Author.Needs.{needs}
-use Rattle.discovery_spec.specs.Rejected.{mark}
-use Rattle.discovery.proofs.mark_of.Statement.{statement}
-use Rattle.discovery.proofs.mark_of.Tie as tie
+use Rattle.replay_spec.specs.Judgement.{mark}
+use Rattle.replay_spec.proofs.mark_of.Statement.{statement}
+use Rattle.replay_spec.proofs.mark_of.Tie as tie
 
 pub mark-of-spec : {M : Type 1} → statement M
 unfolding mark
