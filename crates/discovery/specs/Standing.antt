@@ -12,9 +12,8 @@ use Rattle.foundation.specs.Buffers.{overwrite}
 use Rattle.limits.specs.declared.Settings.{Settings}
 use Rattle.limits.specs.Settings.{mostActivities}
 use Rattle.places.specs.declared.Place.{Place}
-use Rattle.event_log_spec.specs.Frames.{WrittenLog}
 use Rattle.event_log_spec.specs.Lines.{framesOf}
-use Rattle.event_log.specs.Stepping.{frameIndex}
+use Rattle.event_log.specs.FrameIndex.{Indexed}
 use Rattle.replay_spec.specs.Judgement.{verdict}
 use Rattle.discovery_spec.specs.declared.Run.{Run}
 use Rattle.discovery_spec.specs.Search.{State, Progress, going, step, stateOf}
@@ -26,8 +25,7 @@ pub record Searchable (s : Settings) (text index : List ℕ) : Type 0 where
   pub few-activities : s .activities ≤ mostActivities
   pub some-inputs : 1 ≤ s .inputs
   pub small-threshold : s .threshold ≤ 1000
-  pub log : WrittenLog mostActivities (framesOf text) text
-  pub indexed : index ≡ frameIndex 0 (framesOf text)
+  pub indexed : Indexed text index
 
 -- the state that a run's counts and its two buffers stand for; the candidate whose turn it is follows none that is pruned
 unfoldable pub stateIn : Run → List ℕ → List ℕ → State

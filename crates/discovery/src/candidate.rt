@@ -1,10 +1,8 @@
 // One candidate in its turn: document 01, "The walk", the list of what happens to a candidate.
 ghost use mathlib.Core.Path.{_≡_};
 ghost use Prim.Native.Nat.{ℕ, _+_, _≤_, _<_, _^_};
-ghost use Rattle.limits.specs.Settings.{mostActivities};
-ghost use Rattle.event_log_spec.specs.Frames.{WrittenLog};
 ghost use Rattle.event_log_spec.specs.Lines.{framesOf};
-ghost use Rattle.event_log.specs.Stepping.{frameIndex};
+ghost use Rattle.event_log.specs.FrameIndex.{Indexed};
 ghost use Rattle.replay_spec.specs.Judgement.{verdict};
 ghost use Rattle.discovery.specs.declared.Ruling.the-variants.{Unruled};
 ghost use Rattle.discovery.specs.Rulings.{rulingOf};
@@ -78,8 +76,7 @@ pub fn visit_candidate(
     run: Run,
     candidate: Place,
 ) -> Turn
-    requires { ⌜ (threshold ≤ 1000) × WrittenLog mostActivities (framesOf (now text)) (now text)
-        × (now index ≡ frameIndex 0 (framesOf (now text))) × Stands run (now rejected) (now found) × (run .visits + 1 < 2 ^ 32) ⌝ }
+    requires { ⌜ (threshold ≤ 1000) × Indexed (now text) (now index) × Stands run (now rejected) (now found) × (run .visits + 1 < 2 ^ 32) ⌝ }
     ensures { λ r. ⌜ (let p = visit (verdict threshold (framesOf (now (text .entry)))) (capacityOf (now (rejected .entry)) (now (found .entry)) budget)
         candidate (stateIn run (now (rejected .entry)) (now (found .entry))) in
         Leaves p (now (rejected .entry)) (now (found .entry)) (r .run) (now (rejected .exit)) (now (found .exit)) × (r .prune ≡ prunes p)) ⌝ }

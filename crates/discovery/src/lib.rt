@@ -9,7 +9,7 @@ use discovery_spec::COMPLETED;
 use discovery_spec::Discovered;
 use discovery_spec::Run;
 use event_log::check_log;
-use event_log::frame::index_frames;
+use event_log::index::index_frames;
 use event_log_spec::Checked;
 use limits::Refusal;
 use limits::Settings;

@@ -1,13 +1,13 @@
--- Stepping through a log that was checked, frame by frame: the case count at an index, where the activity digits from an index end, and both of
--- all frames. Document 01, "Settings and the log". The first two take any text; of a log's frames they give the frames' own counts and ends.
+-- Stepping through a log that was checked, frame by frame: the case count at an index, and where the activity digits from an index end. Document 01,
+-- "Settings and the log". Both take any text; of a log's frames they give the frames' own counts and ends.
 -- Assumes nothing.
-use Prim.Native.Nat.{ℕ, _+_, _*_}
+use Prim.Native.Nat.{ℕ, _+_}
 use mathlib.Core.Bool.{cond}
 use mathlib.Core.List.{List, [], _∷_}
 use lib.Dec.{eqb, leb}
 use lib.ListN.{length, take, drop}
 use Rattle.hex_digits.specs.Digits.{readHex, lineFeed}
-use Rattle.event_log_spec.specs.Frames.{Frame, countDigits}
+use Rattle.event_log_spec.specs.Frames.{countDigits}
 
 -- the case count that begins at the index: what its four digits write, 0 where fewer bytes are left
 unfoldable pub casesAt : List ℕ → ℕ → ℕ
@@ -22,10 +22,3 @@ pairsLength (d ∷ (e ∷ bytes)) = cond (eqb d lineFeed) 0 (2 + pairsLength byt
 -- the index of the line feed after the activity digits, two for each activity, that begin at the index
 unfoldable pub traceEnd : List ℕ → ℕ → ℕ
 traceEnd text from = from + pairsLength (drop from text)
-
--- a word for each of the frames that are written from an index on: where its activity digits end, plus 2 to the power 32 times its cases. A line feed
--- follows the digits, then the next frame
-unfoldable pub frameIndex : ℕ → List Frame → List ℕ
-frameIndex from [] = []
-frameIndex from (f ∷ frames) =
-    let end = from + countDigits + 2 * length (f .trace) in (end + 4294967296 * f .cases) ∷ frameIndex (end + 1) frames

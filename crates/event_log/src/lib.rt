@@ -11,7 +11,8 @@ use limits::bound_in_range;
 use log_lines::LineChecked;
 use log_lines::line::check_line;
 
-pub mod frame; // frame.rt: stepping through the frames of a checked log
+mod frame; // frame.rt: stepping through the frames of a checked log
+pub mod index; // index.rt: the index of a log's frames
 
 // Every line of a text, in one pass.
 fn check_lines(activities: u8, text: &[u8]) -> Checked

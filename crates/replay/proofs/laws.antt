@@ -3,6 +3,5 @@ pub mod EventBits
 pub mod EventByEvent
 pub mod CodeDigits
 pub mod FrameByFrame
-pub mod FramesLeft
+pub mod FrameReplay
 pub mod Arguments
-pub mod FirstFrame

@@ -2,16 +2,15 @@
 ghost use mathlib.Core.Path.{_≡_};
 ghost use mathlib.Core.Bool.{cond};
 ghost use Prim.Native.Nat.{_+_, _^_, _≤_, _<_};
-ghost use Rattle.limits.specs.Settings.{mostActivities};
-ghost use Rattle.event_log_spec.specs.Frames.{WrittenLog};
-ghost use Rattle.event_log_spec.specs.Lines.{framesOf};
-ghost use Rattle.event_log.specs.Stepping.{frameIndex};
+ghost use lib.ListN.{length};
+ghost use Rattle.event_log.specs.FrameIndex.{Indexed, framesBetween};
 ghost use Rattle.replay_spec.specs.Judgement.{caseCounts, casesOf, exceeds, verdictOf};
 ghost use Rattle.replay.specs.Replaying.{withCases};
 use crate::Tokens;
 use crate::trace::digit_sets;
 use crate::trace::replay_trace;
-use log_lines::COUNT_DIGITS;
+use event_log::index::frame_cases;
+use event_log::index::frame_digits;
 use places::Place;
 use replay_spec::CaseCounts;
 use replay_spec::Verdict;
@@ -38,10 +37,10 @@ fn add_cases(counts: CaseCounts, tokens: Tokens, cases: u64) -> CaseCounts
     }
 }
 
-// The four case counts of a place over a log that was accepted, frame by frame. The index has the cases of each and where its trace ends.
-pub fn count_cases(text: &[u8], index: &[u64], place: Place) -> CaseCounts
-    requires { ⌜ WrittenLog mostActivities (framesOf (now text)) (now text) × (now index ≡ frameIndex 0 (framesOf (now text))) ⌝ }
-    ensures { λ r. ⌜ r ≡ caseCounts place (framesOf (now (text .entry))) ⌝ }
+// The four case counts of a place over the frames of a log that was accepted, from one line on up to another.
+pub fn count_cases(text: &[u8], index: &[u64], from: usize, to: usize, place: Place) -> CaseCounts
+    requires { ⌜ Indexed (now text) (now index) × (to ≤ length (now index)) ⌝ }
+    ensures { λ r. ⌜ r ≡ caseCounts place (framesBetween from to (now (text .entry))) ⌝ }
 {
     let sets = digit_sets(place);
     let mut counts = CaseCounts {
@@ -50,15 +49,10 @@ pub fn count_cases(text: &[u8], index: &[u64], place: Place) -> CaseCounts
         overfed: 0,
         both: 0,
     };
-    let mut at = 0;
-    let mut frame = 0;
-    while frame < index.len() {
-        let word = index[frame];
-        let start = at + COUNT_DIGITS;
-        let end = (word % 4294967296) as usize;
-        let tokens = replay_trace(&text[start..end], sets);
-        counts = add_cases(counts, tokens, word / 4294967296);
-        at = end + 1;
+    let mut frame = from;
+    while frame < to {
+        let tokens = replay_trace(frame_digits(text, index, frame), sets);
+        counts = add_cases(counts, tokens, frame_cases(index, frame));
         frame += 1;
     }
     counts

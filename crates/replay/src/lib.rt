@@ -2,12 +2,11 @@
 ghost use mathlib.Core.Path.{_≡_};
 ghost use Prim.Native.Nat.{_≤_};
 ghost use Rattle.limits.specs.Refusals.{Numbered};
-ghost use Rattle.limits.specs.Settings.{mostActivities, boundFault, boundAndThresholdFault};
+ghost use Rattle.limits.specs.Settings.{boundFault, boundAndThresholdFault};
 ghost use Rattle.places.specs.Places.{placeFault};
-ghost use Rattle.event_log_spec.specs.Frames.{WrittenLog};
 ghost use Rattle.event_log_spec.specs.Lines.{framesOf};
 ghost use Rattle.event_log_spec.specs.Checking.{logRefusal};
-ghost use Rattle.event_log.specs.Stepping.{frameIndex};
+ghost use Rattle.event_log.specs.FrameIndex.{Indexed};
 ghost use Rattle.replay_spec.specs.Answers.{replayed, judged, replayedNumber, replayedValue, judgedNumber, judgedValue};
 ghost use Rattle.replay_spec.specs.Judgement.{verdict};
 ghost use Rattle.replay.specs.Replaying.{argumentsChecked};
@@ -16,13 +15,12 @@ use crate::judgement::verdict_on;
 use crate::trace::digit_sets;
 use crate::trace::replay_trace;
 use event_log::check_text;
-use event_log::frame::index_frames;
-use event_log::frame::trace_end;
+use event_log::index::first_digits;
+use event_log::index::index_frames;
 use event_log_spec::Checked;
 use limits::Refusal;
 use limits::bound_and_threshold_in_range;
 use limits::bound_in_range;
-use log_lines::COUNT_DIGITS;
 use log_lines::MOST_FRAMES;
 use places::Place;
 use places::place_under;
@@ -70,9 +68,7 @@ pub fn replay_first_trace(activities: u8, text: &[u8], place: Place) -> Replayed
             frames: _,
             cases: _,
         } => {
-            let start = COUNT_DIGITS;
-            let end = trace_end(text, start);
-            let tokens = replay_trace(&text[start..end], digit_sets(place));
+            let tokens = replay_trace(first_digits(text), digit_sets(place));
             Replayed::Balances {
                 least: tokens.least,
                 last: tokens.balance,
@@ -83,11 +79,10 @@ pub fn replay_first_trace(activities: u8, text: &[u8], place: Place) -> Replayed
 
 // The verdict on a place over a log that was accepted, and of which there is an index: nothing is checked or looked for again.
 pub fn verdict_over(threshold: u16, text: &[u8], index: &[u64], place: Place) -> Verdict
-    requires { ⌜ (threshold ≤ 1000) × WrittenLog mostActivities (framesOf (now text)) (now text)
-        × (now index ≡ frameIndex 0 (framesOf (now text))) ⌝ }
+    requires { ⌜ (threshold ≤ 1000) × Indexed (now text) (now index) ⌝ }
     ensures { λ r. ⌜ r ≡ verdict threshold (framesOf (now (text .entry))) place ⌝ }
 {
-    verdict_on(threshold, count_cases(text, index, place))
+    verdict_on(threshold, count_cases(text, index, 0, index.len(), place))
 }
 
 // Judges a place over a log at a threshold.
@@ -106,7 +101,7 @@ pub fn judge_place(activities: u8, threshold: u16, text: &[u8], place: Place) ->
         } => {
             let mut index = [0u64; MOST_FRAMES];
             let frames = index_frames(text, &mut index);
-            let counts = count_cases(text, &index[0..frames], place);
+            let counts = count_cases(text, &index[0..frames], 0, frames, place);
             Judged::Counted {
                 counts,
                 verdict: verdict_on(threshold, counts),

@@ -20,7 +20,7 @@ use Rattle.candidate_order.proofs.laws.Succession.{from-first}
 use Rattle.event_log_spec.specs.Frames.{WrittenLog}
 use Rattle.event_log_spec.specs.Lines.{framesOf}
 use Rattle.event_log_spec.proofs.laws.WiderBound.{log-wider}
-use Rattle.event_log.specs.Stepping.{frameIndex}
+use Rattle.event_log.specs.FrameIndex.{frameIndex}
 use Rattle.discovery_spec.specs.declared.Discovered.{Discovered}
 use Rattle.discovery_spec.specs.declared.Discovered.the-variants.{Ran, Refused}
 use Rattle.discovery_spec.specs.declared.Run.{Run}
@@ -43,8 +43,7 @@ searchable s text index known e =
       few-activities = known .settings .few-activities;
       some-inputs = known .settings .some-inputs;
       small-threshold = known .settings .small-threshold;
-      log = log-known s text known;
-      indexed = e;
+      indexed = record { log = log-known s text known; indexed = e };
     }
 
 -- nothing counted, nothing found

@@ -29,7 +29,7 @@ module _ (text : List ℕ) (at : ℕ) (f : Frame) (rest : List ℕ) (e : drop at
   pub frame-cases : f .cases < 16 ^ countDigits → casesAt text at ≡ f .cases
   frame-cases = cases-written text at (f .cases) (pairs ++ (lineFeed ∷ rest)) in-parts
 
-  from-digits : drop start text ≡ pairs ++ (lineFeed ∷ rest)
+  pub from-digits : drop start text ≡ pairs ++ (lineFeed ∷ rest)
   from-digits =
       sym (drop-drop countDigits at text)
       ∙ ap (drop countDigits) in-parts

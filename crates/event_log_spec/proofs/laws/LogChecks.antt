@@ -69,11 +69,6 @@ module _ (A : ℕ) (text : List ℕ) where
   unfolding checked boundFault logRefusal firstRefusal
   bound-refused e = rw e
 
-  module _ (in-range : boundInRange A ≡ true) where
-    pub empty-refused : length text ≡ 0 → checked A text ≡ Refused EmptyLog
-    unfolding checked boundFault logRefusal firstRefusal emptyFault
-    empty-refused e = rw (in-range, e)
-
 -- a check answers with a refusal exactly when it was given it, and accepts only where it was given none
 pub answer-refused : (o : Option Refusal) (n N : ℕ) (r : Refusal) → (answer Refused o (Accepted n N) ≡ Refused r) ↔ (o ≡ some r)
 answer-refused none n N r = (λ e. impossible (cc), λ e. impossible (cc))

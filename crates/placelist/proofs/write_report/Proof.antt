@@ -31,7 +31,7 @@ report-within : (c : tie.After-known-told)
     → c .before .count .given .0 .0 ≤ length (c .before .before .before .before .report-places .last .1 .0)
 report-within c =
     let r = c .before .before .before .before .report-places in
-    let fits = answer-within _ _ _ (sym (r .ensures .0) ∙ c .before .count .given .1) (sym (ap length (r .ensures .1)) ∙ r .kept .1 .0) in
+    let fits = answer-within _ _ _ (sym (r .ensures .0) ∙ c .before .count .given .1) (sym (ap length (r .ensures .1 .0)) ∙ r .kept .1 .0) in
     omega (arith, fits, r .kept .1 .0)
 
 pub write-report-spec : {M : Type 1} → statement M

@@ -2,7 +2,8 @@
 -- and whose cases are counted, and the counts give the verdict.
 -- Assumes nothing.
 use Prim.Native.Nat.{_≤_}
-use mathlib.Core.Path.{sym, _∙_}
+use native.Mathlib.Omega.{arith}
+use mathlib.Core.Path.{_≡_, sym, ap, _∙_}
 use mathlib.Core.Bool.{_&&_, and-eq-true-iff}
 use borrow.Author.Needs.{needs}
 use borrow.Author.Tests.{leb-true}
@@ -12,7 +13,9 @@ use Rattle.event_log_spec.specs.Frames.{WrittenLog}
 use Rattle.event_log_spec.specs.Lines.{framesOf}
 use Rattle.event_log_spec.proofs.laws.Written.{bound-most}
 use Rattle.event_log_spec.proofs.laws.WiderBound.{log-wider}
-use Rattle.event_log.proofs.laws.FrameIndex.{stored-room, stored-index}
+use Rattle.event_log.proofs.laws.FrameIndex.{stored-room, stored-length, stored-index}
+use Rattle.event_log.proofs.laws.FrameRanges.{frames-all}
+use Rattle.replay_spec.specs.Judgement.{caseCounts}
 use Rattle.replay_spec.proofs.laws.AnswerLaws.{judged-numbered}
 use Rattle.replay.proofs.laws.Arguments.{Passed, accepted, judge-refused, judge-accepted}
 use Rattle.replay.proofs.laws.FrameByFrame.{verdict-counted, counts-bounded}
@@ -54,14 +57,25 @@ part-count-cases-end c =
 count-cases-requires : tie.Need-count-cases-requires
 count-cases-requires c κs =
     let t = c .before .before .before in
-    (log (t .before .before), stored-index _ _ _ _ (t .index-frames .ensures .0) (t .index-frames .ensures .1))
+    let stored = t .index-frames .ensures in (
+      record { log = log (t .before .before); indexed = stored-index _ _ _ _ (stored .0) (stored .1) },
+      omega (arith, stored-length _ _ _ _ (stored .0) (stored .1)),
+    )
+
+-- all frames are counted
+all-counted : (c : tie.After-count-cases)
+    → let a = c .before .before .before .before .before .before .before .before .before .before .before .args in
+    c .count-cases .result ≡ caseCounts (a .place) (framesOf (a .text .now))
+all-counted c =
+    let t = c .before .before .before .before in
+    c .count-cases .ensures ∙ rw (t .index-frames .ensures .0) (ap (caseCounts _) (frames-all _))
 
 -- the arguments had passed before the cases were counted
 abbrev told : tie.After-count-cases → tie.After-enum-told
 told c = c .before .before .before .before .before .before
 
 verdict-on-requires : tie.Need-verdict-on-requires
-verdict-on-requires c κs = (small (told c), rw (c .count-cases .ensures) (counts-bounded _ _ (log (told c))))
+verdict-on-requires c κs = (small (told c), rw (all-counted c) (counts-bounded _ _ (log (told c))))
 
 returns : tie.Need-returns
 returns c =
@@ -74,7 +88,7 @@ returns-2 : tie.Need-returns-2
 returns-2 c =
     let k = c .before in
     judged-numbered _ _ _ _
-    (rw (c .verdict-on .ensures, k .count-cases .ensures, verdict-counted _ _ _) (judge-accepted _ _ _ _ (passed (told k))))
+    (rw (c .verdict-on .ensures, all-counted k, verdict-counted _ _ _) (judge-accepted _ _ _ _ (passed (told k))))
 
 pub judge-place-spec : {M : Type 1} → statement M
 judge-place-spec =

@@ -1,20 +1,18 @@
 -- Counting cases frame by frame gives the four case counts: each count is a sum over the frames, and a frame adds its cases to one of the four.
--- So all cases grow by the frame's, and the counts of a log stay far below 2 to the power 54, where shares can be compared.
+-- All cases of a log stay far below 2 to the power 54, where shares can be compared.
 -- Assumes nothing.
 use Prim.Native.Nat.{ℕ, _+_, _*_, _^_, _≤_, _<_}
-use native.Mathlib.Nat.{add-zero, zero-add, add-assoc}
+use native.Mathlib.Nat.{add-zero}
 use native.Mathlib.Omega.{arith}
-use mathlib.Core.Path.{_≡_, ap, _∙_}
-use mathlib.Core.Bool.{Bool, true, false, cond, not, _&&_}
-use mathlib.Core.List.{List, [], _∷_}
-use lib.IntN.{pos}
-use lib.Signed.{ltZ}
+use mathlib.Core.Path.{_≡_, refl, ap}
+use mathlib.Core.Bool.{Bool, cond}
+use mathlib.Core.List.{List, [], _∷_, _++_}
 use lib.ListN.{length}
-use Rattle.foundation.specs.Lists.{Each, each-nil, each-cons, foldl}
+use Rattle.foundation.specs.Lists.{Each, each-nil, each-cons}
+use Rattle.foundation.proofs.laws.Sums.{sum-append}
 use Rattle.places.specs.declared.Place.{Place}
 use Rattle.event_log_spec.specs.Frames.{Frame, FrameUnder, WrittenLog, countDigits, totalCases}
 use Rattle.replay_spec.specs.declared.CaseCounts.{CaseCounts}
-use Rattle.replay.specs.declared.Tokens.{Tokens}
 use Rattle.replay_spec.specs.Balance.{underfeeds, overfeeds}
 use Rattle.replay_spec.specs.Judgement.{casesWhere, caseCounts, casesOf, verdictOf, verdict}
 use Rattle.replay.specs.Replaying.{afterTrace, withCases}
@@ -24,53 +22,20 @@ use Rattle.replay_spec.proofs.laws.Counts.{casesWhere-sum, counts-add-up}
 abbrev pub noCases : CaseCounts
 noCases = record { fitting = 0; underfed = 0; overfed = 0; both = 0 }
 
--- the case counts with those of one more frame
-abbrev pub withFrame : Place → CaseCounts → Frame → CaseCounts
-withFrame p c f = withCases c (afterTrace p (f .trace)) (f .cases)
-
--- two case counts together
-abbrev together : CaseCounts → CaseCounts → CaseCounts
-together c d =
-    record {
-      fitting = c .fitting + d .fitting;
-      underfed = c .underfed + d .underfed;
-      overfed = c .overfed + d .overfed;
-      both = c .both + d .both;
-    }
-
-casesWhere-next : (test : List ℕ → Bool) (f : Frame) (frames : List Frame)
-    → casesWhere test (f ∷ frames) ≡ cond (test (f .trace)) (f .cases) 0 + casesWhere test frames
-casesWhere-next test f frames = simp casesWhere-sum
+casesWhere-more : (test : List ℕ → Bool) (frames : List Frame) (f : Frame)
+    → casesWhere test (frames ++ (f ∷ [])) ≡ casesWhere test frames + cond (test (f .trace)) (f .cases) 0
+casesWhere-more test frames f = simp (casesWhere-sum, sum-append, add-zero)
 
 module _ (p : Place) where
-  counts-next : (c : CaseCounts) (f : Frame) (frames : List Frame)
-      → together (withFrame p c f) (caseCounts p frames) ≡ together c (caseCounts p (f ∷ frames))
-  unfolding withCases caseCounts underfeeds overfeeds
-  counts-next c f frames = simp (casesWhere-next, add-assoc)
-
-  frame-by-frame : (c : CaseCounts) (frames : List Frame) → foldl (withFrame p) c frames ≡ together c (caseCounts p frames)
+  pub counts-none : caseCounts p [] ≡ noCases
   unfolding caseCounts casesWhere totalCases
-  frame-by-frame c [] = simp add-zero
-  frame-by-frame c (f ∷ frames) = frame-by-frame (withFrame p c f) frames ∙ counts-next c f frames
+  counts-none = refl
 
-  pub all-frames : (frames : List Frame) → foldl (withFrame p) noCases frames ≡ caseCounts p frames
-  unfolding caseCounts
-  all-frames frames = frame-by-frame noCases frames ∙ simp zero-add
-
-pub cases-added : (c : CaseCounts) (t : Tokens) (n : ℕ) → casesOf (withCases c t n) ≡ casesOf c + n
-unfolding withCases
-cases-added c t n = go (ltZ (t .least) (pos 0)) (ltZ (pos 0) (t .balance))
-  where
-    go : (u o : Bool)
-        → c .fitting + cond (not u && not o) n 0
-        + (c .underfed + cond (u && not o) n 0)
-        + (c .overfed + cond (not u && o) n 0)
-        + (c .both + cond (u && o) n 0)
-        ≡ casesOf c + n
-    go true true = omega arith
-    go true false = omega arith
-    go false true = omega arith
-    go false false = omega arith
+  -- one frame more
+  pub counts-more : (frames : List Frame) (f : Frame)
+      → caseCounts p (frames ++ (f ∷ [])) ≡ withCases (caseCounts p frames) (afterTrace p (f .trace)) (f .cases)
+  unfolding withCases caseCounts underfeeds overfeeds
+  counts-more frames f = simp casesWhere-more
 
 pub total-bounded : {A : ℕ} {frames : List Frame} → Each (FrameUnder A) frames → totalCases frames ≤ 16 ^ countDigits * length frames
 unfolding totalCases

@@ -29,7 +29,7 @@ returns c =
     _
     (a .budget)
     (a .candidate)
-    (s .pre .3)
+    (s .pre .2)
     (sym (ruled k) ∙ c .before .before .enum-told3 .given .1)
     (omega (arith, c .if1 .taken))
 
@@ -38,7 +38,7 @@ unfolding stateIn
 conclude-turn-requires c κs =
     let e = c .before .before .before .before .before .before .before in
     let k = e .before .before in
-    let stands = k .before .before .before .before .before .before .before .pre .3 in (
+    let stands = k .before .before .before .before .before .before .before .pre .2 in (
       record { goes-on = stands .goes-on; rejected-there = stands .rejected-there; found-there = stands .found-there },
       sym (ruled k) ∙ e .enum-told3 .given .1,
     )
@@ -48,14 +48,14 @@ returns-2 c =
     let k = c .before .before .before in
     let s = k .before .before .before .before .before .before .before in
     let a = s .args in
-    skipped _ (a .budget) (a .candidate) (s .pre .3) AsOverfed (sym (ruled k) ∙ c .before .enum-told .given .1) refl
+    skipped _ (a .budget) (a .candidate) (s .pre .2) AsOverfed (sym (ruled k) ∙ c .before .enum-told .given .1) refl
 
 returns-3 : tie.Need-returns-3
 returns-3 c =
     let k = c .before .before .before in
     let s = k .before .before .before .before .before .before .before in
     let a = s .args in
-    skipped _ (a .budget) (a .candidate) (s .pre .3) AsUnderfed (sym (ruled k) ∙ c .before .enum-told2 .given .1) refl
+    skipped _ (a .budget) (a .candidate) (s .pre .2) AsUnderfed (sym (ruled k) ∙ c .before .enum-told2 .given .1) refl
 
 returns-4 : tie.Need-returns-4
 returns-4 c =
@@ -70,7 +70,7 @@ returns-4 c =
           (verdict (a .threshold) (framesOf (a .text .now)))
           (a .budget)
           (a .candidate)
-          (s .pre .3)
+          (s .pre .2)
           (sym (ruled k) ∙ e .enum-told3 .given .1)
           (omega (arith, v .before .before .before .if1 .left)),
       sym (v .verdict-over .ensures),

@@ -50,7 +50,6 @@ visit-candidate-requires : tie.Need-visit-candidate-requires Inv-loop μ-loop
 visit-candidate-requires c κs =
     let l = c .before .before .before in (
       known l .small-threshold,
-      known l .log,
       known l .indexed,
       l .loop .inv .reached .stands,
       one-more (known l .few-activities) (l .loop .inv) (c .before .before .loop-test .taken),

@@ -1,62 +1,94 @@
--- `replay::judgement::count_cases` meets its contract. The loop's invariant: for every place whose sets these are, the text goes on with frames
--- whose cases, added to the counts so far, give the case counts of all. The measure is how many words of the index are left.
+-- `replay::judgement::count_cases` meets its contract. The loop's invariant: the counts are those of the frames before the one whose turn it is, for
+-- every place whose sets these are. The measure is how many frames are left.
 -- Assumes nothing.
-use Prim.Native.Nat.{_+_, _-_, _/_, _%_}
+use Prim.Native.Nat.{ℕ, _-_, _≤_, _<_}
 use native.Mathlib.Omega.{arith}
-use mathlib.Core.Path.{_≡_}
+use mathlib.Core.Path.{_≡_, sym, ap, _∙_}
 use borrow.Author.Needs.{needs}
-use lib.ListN.{length, getD}
+use lib.ListN.{length, take, drop, getD}
 use Rattle.places.specs.declared.Place.{Place}
-use Rattle.event_log.proofs.laws.FrameIndex.{log-bytes}
+use Rattle.event_log_spec.specs.Lines.{framesOf}
+use Rattle.event_log.specs.FrameIndex.{frameAt, framesBetween}
+use Rattle.event_log.proofs.laws.IndexedFrames.{WordOf, frame-found}
+use Rattle.event_log.proofs.laws.FrameRanges.{index-length, frames-none, frames-more}
+use Rattle.replay_spec.specs.Judgement.{caseCounts}
 use Rattle.replay.specs.Replaying.{digitSets}
-use Rattle.replay.proofs.laws.FramesLeft.{SomeLeft, Turn, all-left, none-left, turn}
+use Rattle.replay.proofs.laws.FrameByFrame.{counts-none, counts-more}
+use Rattle.replay.proofs.laws.FrameReplay.{frame-digits, cases-fit}
 use Rattle.replay.proofs.judgement.count_cases.Statement.{statement}
 use Rattle.replay.proofs.judgement.count_cases.Tie as tie
 
 abbrev Inv-loop : tie.InvT-loop
-Inv-loop text index sets counts₀ at₀ frame₀ counts at frame = (place : Place) → sets ≡ digitSets place → SomeLeft place text index counts at frame
+Inv-loop text index from to sets counts₀ frame₀ counts frame =
+    (from ≤ frame)
+    × (frame - from ≤ to - from)
+    × ((place : Place) → sets ≡ digitSets place → counts ≡ caseCounts place (framesBetween from frame text))
 
 abbrev μ-loop : tie.MeasureT-loop
-μ-loop text index sets counts₀ at₀ frame₀ counts at frame = length index - frame
+μ-loop text index from to sets counts₀ frame₀ counts frame = to - frame
 
 loop-holds : tie.Need-loop-holds Inv-loop μ-loop
 loop-holds c =
-    let s = c .before .before .before in
-    λ place e. all-left place (s .args .text .now) (s .args .index .now) (s .pre .0) (s .pre .1)
+    let a = c .before .before .before .args in (
+      omega arith,
+      omega arith,
+      λ place e. sym (ap (caseCounts place) (frames-none (a .text .now) (a .from)) ∙ counts-none place),
+    )
 
--- the frame at the loop's index
-turn-of : (c : tie.In-loop Inv-loop μ-loop)
+-- the frame whose turn it is
+found : (c : tie.In-loop Inv-loop μ-loop)
     → let l = c .before in
     let a = l .before .before .before .before .args in
-    let word = getD (a .index .now) (l .loop .frame) 0 in
-    (place : Place) → l .before .digit-sets .result ≡ digitSets place
-    → Turn place (a .text .now) (a .index .now) (l .loop .counts) (l .loop .at) (l .loop .frame) (l .loop .at + 4) (word % 4294967296) (word / 4294967296)
-turn-of c =
+    WordOf (a .text .now) (frameAt (a .text .now) (l .loop .frame)) (getD (a .index .now) (l .loop .frame) 0)
+found c =
     let l = c .before in
-    let entry = l .before .before .before .before in
-    let a = entry .args in
-    λ place e.
-    turn place (a .text .now) (a .index .now) (l .loop .counts) (l .loop .at) (l .loop .frame) (log-bytes (entry .pre .0)) (c .loop-test .taken) (l .loop .inv place e)
+    let s = l .before .before .before .before in frame-found (s .pre .0) (l .loop .frame) (omega (arith, c .loop-test .taken, s .pre .1))
 
--- and that of the place at hand
-here : (c : tie.In-loop Inv-loop μ-loop)
-    → let l = c .before in
-    let a = l .before .before .before .before .args in
-    let word = getD (a .index .now) (l .loop .frame) 0 in
-    Turn (a .place) (a .text .now) (a .index .now) (l .loop .counts) (l .loop .at) (l .loop .frame) (l .loop .at + 4) (word % 4294967296) (word / 4294967296)
-here c = turn-of c _ (c .before .before .digit-sets .ensures)
+replay-trace-requires : tie.Need-replay-trace-requires Inv-loop μ-loop
+replay-trace-requires c κs =
+    let d = frame-digits _ (found (c .before) .under) in rw (c .frame-digits .ensures) (d .short, d .all-digits)
+
+add-cases-requires : tie.Need-add-cases-requires Inv-loop μ-loop
+add-cases-requires c κs =
+    let i = c .before .before .before in
+    let l = i .before in
+    let s = l .before .before .before .before in
+    let counts = l .loop .inv .2 (s .args .place) (l .before .digit-sets .ensures) in
+    rw (c .frame-cases .ensures, found i .cases, counts)
+    (cases-fit (s .args .place) (s .pre .0 .log) (s .args .from) (l .loop .frame) _ (found i .under))
 
 loop-again : tie.Need-loop-again Inv-loop μ-loop
 loop-again c =
-    let t = c .before in
-    λ place e.
-    rw (c .add-cases .ensures, t .replay-trace .ensures place e) (turn-of (t .before .before .before) place e .after)
+    let t = c .before .before in
+    let d = t .before in
+    let i = d .before in
+    let l = i .before in
+    let s = l .before .before .before .before in
+    let text = s .args .text .now in
+    let less : l .loop .frame < length (framesOf text) = omega (arith, i .loop-test .taken, s .pre .1, index-length (s .pre .0)) in (
+      omega (arith, l .loop .inv .0),
+      omega (arith, l .loop .inv .0, i .loop-test .taken),
+      λ place e.
+          c .add-cases .ensures
+          ∙ rw (
+            t .replay-trace .ensures place e,
+            d .frame-digits .ensures,
+            frame-digits _ (found i .under) .trace,
+            c .before .frame-cases .ensures,
+            found i .cases,
+            l .loop .inv .2 place e,
+            frames-more text (s .args .from) (l .loop .frame) (l .loop .inv .0) less,
+          )
+          (sym (counts-more place (framesBetween (s .args .from) (l .loop .frame) text) (frameAt text (l .loop .frame)))),
+    )
 
 returns : tie.Need-returns Inv-loop μ-loop
 returns c =
     let l = c .before in
     let a = l .before .before .before .before .args in
-    none-left (a .place) (a .text .now) (a .index .now) (l .loop .counts) (l .loop .at) (l .loop .frame) (c .loop-test .left) (l .loop .inv _ (l .before .digit-sets .ensures))
+    let size : l .loop .frame - a .from ≡ a .to - a .from = omega (arith, l .loop .inv .1, c .loop-test .left) in
+    l .loop .inv .2 (a .place) (l .before .digit-sets .ensures)
+    ∙ ap (λ (n : ℕ). caseCounts (a .place) (take n (drop (a .from) (framesOf (a .text .now))))) size
 
 pub count-cases-spec : {M : Type 1} → statement M
 count-cases-spec =
@@ -66,15 +98,10 @@ count-cases-spec =
     μ-loop
     (λ c κs. search needs)  -- digit-sets-requires
     loop-holds
-    (λ c. omega arith)  -- mul-word
-    (λ c. omega arith)  -- shared-slice-read-word
-    (λ c. omega (arith, here (c .before) .starts, here (c .before) .inside))  -- add-start
-    (λ c. here (c .before) .starts)  -- sub-replay-trace
-    (λ c. here (c .before) .starts)  -- part-replay-trace-start
-    (λ c. omega (arith, here (c .before) .inside))  -- part-replay-trace-end
-    (λ c κs. let h = here (c .before .before) in (h .short, h .digits))  -- replay-trace-requires
-    (λ c κs. here (c .before .before .before) .fits)  -- add-cases-requires
-    (λ c. omega (arith, here (c .before .before .before .before) .inside))  -- add-at
+    (λ c κs. let s = c .before .before .before .before .before in (s .pre .0, omega (arith, c .loop-test .taken, s .pre .1)))  -- frame-digits-requires
+    replay-trace-requires
+    (λ c κs. let s = c .before .before .before .before .before .before .before in omega (arith, s .pre .1))  -- frame-cases-requires
+    add-cases-requires
     (λ c. omega arith)  -- add-frame
     (λ c. omega arith)  -- loop-less
     loop-again
