@@ -4,14 +4,21 @@
 use Prim.Native.Nat.{ℕ, _+_}
 use mathlib.Core.Bool.{cond}
 use mathlib.Core.List.{List, [], _∷_}
-use lib.Dec.{eqb, leb}
-use lib.ListN.{length, take, drop}
-use Rattle.hex_digits.specs.Digits.{readHex, lineFeed}
-use Rattle.event_log_spec.specs.Frames.{countDigits}
+use lib.Dec.{eqb}
+use lib.ListN.{drop}
+use Rattle.hex_digits.specs.Digits.{lineFeed}
+use Rattle.log_lines.specs.declared.Count.{Count}
+use Rattle.log_lines.specs.declared.Count.the-variants.{Cases, Malformed}
+use Rattle.log_lines.specs.Reading.{countIn}
 
--- the case count that begins at the index: what its four digits write, 0 where fewer bytes are left
+-- the cases of a count, 0 where it is malformed
+abbrev pub casesIn : Count → ℕ
+casesIn (Cases n) = n
+casesIn Malformed = 0
+
+-- the case count that begins at the index, 0 where there is none
 unfoldable pub casesAt : List ℕ → ℕ → ℕ
-casesAt text from = cond (leb (from + countDigits) (length text)) (readHex (take countDigits (drop from text))) 0
+casesAt text from = casesIn (countIn (drop from text))
 
 -- the bytes that stand in pairs before the first pair that begins with a line feed; a last byte alone counts as a pair
 unfoldable pub pairsLength : List ℕ → ℕ

@@ -36,7 +36,7 @@ pub fn index_frames(text: &[u8], index: &mut [u64]) -> usize
     while at < text.len() {
         let start = at + COUNT_DIGITS;
         let end = trace_end(text, start);
-        index[count] = index_word((end - start) / 2, start, cases_at(text, at) as u64);
+        index[count] = index_word((end - start) / 2, start, cases_at(text, at));
         count += 1;
         at = end + 1;
     }

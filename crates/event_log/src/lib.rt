@@ -27,7 +27,7 @@ fn check_lines(activities: u8, text: &[u8]) -> Checked
             LineChecked::Sound { next, cases: more } => {
                 at = next;
                 frames += 1;
-                cases += more as u64;
+                cases += more;
             }
         }
     }

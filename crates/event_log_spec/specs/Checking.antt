@@ -14,15 +14,15 @@ use Rattle.limits.specs.Settings.{boundFault}
 use Rattle.event_log_spec.specs.declared.Checked.{Checked}
 use Rattle.event_log_spec.specs.declared.Checked.the-variants.{Accepted, Refused}
 use Rattle.hex_digits.specs.Digits.{isDigit}
-use Rattle.event_log_spec.specs.Frames.{countDigits, mostEvents, mostFrames, totalCases}
+use Rattle.event_log_spec.specs.Frames.{mostEvents, mostFrames, shortestFrame, totalCases}
 use Rattle.event_log_spec.specs.Lines.{Line, lines, frameOf, framesOf}
 
--- number 2, broken frame. The shortest frame has its count and two activities
+-- number 2, broken frame
 unfoldable pub malformed : Line → Bool
 malformed l =
     not (l .ended)
     || eqb (length (l .bytes) % 2) 1
-    || ltb (length (l .bytes)) (countDigits + 4)
+    || ltb (length (l .bytes)) shortestFrame
     || not (all isDigit (l .bytes))
     || eqb (frameOf l .cases) 0
 

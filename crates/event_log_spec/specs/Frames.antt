@@ -1,6 +1,6 @@
 -- Frames, and how a log is built from them: the written form. Document 01, "Settings and the log"; the source's Definitions 1 and 2.
 -- Assumes nothing.
-use Prim.Native.Nat.{ℕ, _^_, _≤_, _<_}
+use Prim.Native.Nat.{ℕ, _+_, _*_, _^_, _≤_, _<_}
 use mathlib.Core.Path.{_≡_}
 use mathlib.Core.List.{List, [], _∷_, _++_, map, flatMap}
 use lib.ListN.{length}
@@ -22,6 +22,13 @@ mostEvents = 254
 
 abbrev pub mostFrames : ℕ
 mostFrames = 4096
+
+-- the digits of the shortest and of the longest frame: the count, and two for each activity
+abbrev pub shortestFrame : ℕ
+shortestFrame = countDigits + 2 * 2
+
+abbrev pub longestFrame : ℕ
+longestFrame = countDigits + 2 * mostEvents
 
 -- a behaviour (Definition 1): the start, activities that are neither start nor end, the end
 pub record Behaviour (trace : List ℕ) : Type 0 where

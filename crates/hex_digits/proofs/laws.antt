@@ -1,2 +1,4 @@
 pub mod DigitLaws
-pub mod PairNumbers
+pub mod NumberLaws
+pub mod DigitsFromFront
+pub mod DigitsFromBack

@@ -5,10 +5,11 @@ use mathlib.Core.Bool.{Bool, true, false, cond, _&&_}
 use mathlib.Core.List.{List, [], _∷_}
 use lib.Dec.{leb, ltb}
 use lib.ListN.{length}
+use Rattle.foundation.specs.Lists.{all}
 use Rattle.hex_digits.specs.declared.Digit.{Digit}
 use Rattle.hex_digits.specs.declared.Digit.the-variants.{Value, NonDigit}
-use Rattle.hex_digits.specs.declared.Pair.{Pair}
-use Rattle.hex_digits.specs.declared.Pair.the-variants.{Number, NonDigits}
+use Rattle.hex_digits.specs.declared.Number.{Number}
+use Rattle.hex_digits.specs.declared.Number.the-variants as Number
 
 -- the bytes 0 to 9 (48 to 57) have the values 0 to 9, and A to F (65 to 70) the values 10 to 15
 unfoldable pub digitOf : ℕ → Digit
@@ -38,9 +39,13 @@ unfoldable pub readHex : List ℕ → ℕ
 readHex [] = 0
 readHex (byte ∷ bytes) = digitValue byte * 16 ^ length bytes + readHex bytes
 
--- the number that two digits write; none where either byte is no digit
-unfoldable pub pairOf : ℕ → ℕ → Pair
-pairOf first second = cond (isDigit first && isDigit second) (Number (readHex (first ∷ second ∷ []))) NonDigits
+-- the number that bytes write as digits; none where one of them is no digit
+unfoldable pub numberIn : List ℕ → Number
+numberIn bytes = cond (all isDigit bytes) (Number.Value (readHex bytes)) Number.NonDigits
+
+-- the most digits whose numbers all have 64 bits
+abbrev pub mostDigits : ℕ
+mostDigits = 16
 
 -- the byte that writes a value below 16
 unfoldable pub digitByte : ℕ → ℕ

@@ -1,8 +1,10 @@
-// Reading hexadecimal digits: 0 to 9 and A to F, never lower case.
+// Hexadecimal digits: 0 to 9 and A to F, never lower case. Numbers are read from them and written in them.
 ghost use mathlib.Core.Path.{_≡_};
-ghost use Rattle.hex_digits.specs.Digits.{digitOf, pairOf, digitValue};
+ghost use Prim.Native.Nat.{_<_, _≤_};
+ghost use lib.ListN.{length};
+ghost use Rattle.hex_digits.specs.Digits.{digitOf, mostDigits, numberIn, digitByte, writeHex};
 use crate::Digit;
-use crate::Pair;
+use crate::Number;
 
 // What a byte is as a digit.
 pub fn classify(byte: u8) -> Digit
@@ -15,25 +17,42 @@ pub fn classify(byte: u8) -> Digit
     }
 }
 
-// The number that two digits write.
-pub fn pair(first: u8, second: u8) -> Pair
-    ensures { λ r. ⌜ r ≡ pairOf first second ⌝ }
+// The number that a slice of digits writes, the highest first, of which there are no more than 64 bits take.
+pub fn read_hex(digits: &[u8]) -> Number
+    requires { ⌜ length (now digits) ≤ mostDigits ⌝ }
+    ensures { λ r. ⌜ r ≡ numberIn (now (digits .entry)) ⌝ }
 {
-    match classify(first) {
-        Digit::NonDigit => Pair::NonDigits,
-        Digit::Value(h) => match classify(second) {
-            Digit::NonDigit => Pair::NonDigits,
-            Digit::Value(l) => Pair::Number(16 * h + l),
-        },
+    let mut number: u64 = 0;
+    let mut at = 0;
+    while at < digits.len() {
+        match classify(digits[at]) {
+            Digit::NonDigit => return Number::NonDigits,
+            Digit::Value(value) => {
+                number = 16 * number + value as u64;
+                at += 1;
+            }
+        }
     }
+    Number::Value(number)
 }
 
-// The value of a digit that is known to be one; 0 of any other byte.
-pub fn value(byte: u8) -> u8
-    ensures { λ r. ⌜ r ≡ digitValue byte ⌝ }
+// The byte that writes a value below 16, with no branch: from 10 on it stands 7 further, where the letters are.
+fn digit_byte(value: u8) -> u8
+    requires { ⌜ value < 16 ⌝ }
+    ensures { λ r. ⌜ r ≡ digitByte value ⌝ }
 {
-    match classify(byte) {
-        Digit::Value(v) => v,
-        Digit::NonDigit => 0,
+    b'0' + value + (value + 6) / 16 * 7
+}
+
+// Fills a slice with a number's lowest digits, the highest first: as many as there are bytes.
+pub fn write_hex(number: u64, text: &mut [u8])
+    ensures { λ _. ⌜ now (text .exit) ≡ writeHex (length (now (text .entry))) number ⌝ }
+{
+    let mut rest = number;
+    let mut at = text.len();
+    while 0 < at {
+        at -= 1;
+        text[at] = digit_byte((rest % 16) as u8);
+        rest = rest / 16;
     }
 }

@@ -1,5 +1,5 @@
-// Hexadecimal digits: document 01, "Settings and the log".
-pub mod hex; // hex.rt: what bytes are as digits
+// Hexadecimal digits, read and written: document 01, "Settings and the log".
+pub mod hex; // hex.rt: what bytes are as digits, and numbers in digits
 
 // What a byte is as a hexadecimal digit.
 pub enum Digit {
@@ -7,8 +7,8 @@ pub enum Digit {
     NonDigit,
 }
 
-// What two bytes are as hexadecimal digits.
-pub enum Pair {
-    Number(u8),
+// The number that some bytes write as hexadecimal digits, or that one of them is no digit.
+pub enum Number {
+    Value(u64),
     NonDigits,
 }

@@ -21,7 +21,7 @@ use Rattle.event_log_spec.specs.Frames.{countDigits}
 use Rattle.event_log_spec.specs.Lines.{Line, readPairs, frameOf}
 use Rattle.event_log_spec.specs.Checking.{namesUnknown, endpointMisplaced, lineFault}
 
--- the case count that a text begins with: four digits that are not 0000
+-- the case count that a text begins with: as many digits as a count has, and not all of them 0
 unfoldable pub countIn : List ℕ → Count
 countIn text =
     cond

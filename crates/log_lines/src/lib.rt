@@ -6,20 +6,25 @@ pub mod line; // line.rt: checking a line
 // The byte that ends a line.
 pub const LINE_FEED: u8 = 10;
 
-// The digits of a case count.
+// The digits of a case count, and of an activity code.
 pub const COUNT_DIGITS: usize = 4;
 
-// The digits of the shortest and of the longest line: a count, and two for each of 2 to 254 activities.
-pub const SHORTEST_LINE: usize = 8;
+pub const CODE_DIGITS: usize = 2;
 
-pub const LONGEST_LINE: usize = 512;
+// The most activities of a line; the fewest are two.
+pub const MOST_EVENTS: usize = 254;
+
+// The digits of the shortest and of the longest line: a count and the codes.
+pub const SHORTEST_LINE: usize = COUNT_DIGITS + 2 * CODE_DIGITS;
+
+pub const LONGEST_LINE: usize = COUNT_DIGITS + MOST_EVENTS * CODE_DIGITS;
 
 // The most frames of a log.
 pub const MOST_FRAMES: usize = 4096;
 
 // The case count that a line begins with.
 pub enum Count {
-    Cases(u16),
+    Cases(u64),
     Malformed,
 }
 
@@ -44,6 +49,6 @@ pub enum Activities {
 
 // What checking one line answers: the index after its line feed and its case count, or its first fault.
 pub enum LineChecked {
-    Sound { next: usize, cases: u16 },
+    Sound { next: usize, cases: u64 },
     Faulty(Refusal),
 }

@@ -4,6 +4,7 @@ ghost use lib.ListN.{drop};
 ghost use Rattle.event_log_spec.specs.Lines.{firstLine};
 ghost use Rattle.log_lines.specs.Reading.{countIn, nextPhase, incomplete, activitiesIn, lineChecked};
 use crate::Activities;
+use crate::CODE_DIGITS;
 use crate::COUNT_DIGITS;
 use crate::Count;
 use crate::LINE_FEED;
@@ -12,8 +13,8 @@ use crate::LineChecked;
 use crate::MOST_FRAMES;
 use crate::Phase;
 use crate::SHORTEST_LINE;
-use hex_digits::Pair;
-use hex_digits::hex::pair;
+use hex_digits::Number;
+use hex_digits::hex::read_hex;
 use limits::Refusal;
 
 // The case count of the line that begins at `from`.
@@ -26,15 +27,10 @@ pub fn count_at(text: &[u8], from: usize) -> Count
     if text.len() - COUNT_DIGITS < from {
         return Count::Malformed;
     }
-    let first = pair(text[from], text[from + 1]);
-    let Pair::Number(front) = first else {
+    let digits = read_hex(&text[from..from + COUNT_DIGITS]);
+    let Number::Value(cases) = digits else {
         return Count::Malformed;
     };
-    let second = pair(text[from + 2], text[from + 3]);
-    let Pair::Number(back) = second else {
-        return Count::Malformed;
-    };
-    let cases = 256 * front as u16 + back as u16;
     if cases == 0 {
         Count::Malformed
     } else {
@@ -43,7 +39,7 @@ pub fn count_at(text: &[u8], from: usize) -> Count
 }
 
 // Where a trace stands after one event more.
-pub fn advance(phase: Phase, code: u8) -> Phase
+pub fn advance(phase: Phase, code: u64) -> Phase
     ensures { λ r. ⌜ r ≡ nextPhase phase code ⌝ }
 {
     match phase {
@@ -89,16 +85,16 @@ pub fn read_activities(activities: u8, text: &[u8], from: usize) -> Activities
                 misplaced: is_misplaced(phase),
             };
         }
-        if text.len() - at < 2 {
+        if text.len() - at < CODE_DIGITS {
             return Activities::Malformed;
         }
-        let digits = pair(text[at], text[at + 1]);
-        let Pair::Number(code) = digits else {
+        let digits = read_hex(&text[at..at + CODE_DIGITS]);
+        let Number::Value(code) = digits else {
             return Activities::Malformed;
         };
         phase = advance(phase, code);
-        unknown = unknown | (activities <= code);
-        at += 2;
+        unknown = unknown | (activities as u64 <= code);
+        at += CODE_DIGITS;
     }
     Activities::Malformed
 }

@@ -2,6 +2,7 @@
 -- last paragraph.
 -- Assumes nothing.
 use Prim.Native.Nat.{ℕ}
+use mathlib.Core.Bool.{cond}
 use mathlib.Core.List.{List, [], _∷_, _++_}
 use mathlib.Core.Option.{Option}
 use lib.Dec.{ltb}
@@ -16,7 +17,13 @@ use Rattle.discovery_spec.specs.declared.Run.{Run}
 use Rattle.discovery_spec.specs.Discovery.{run, runRefusal}
 use Rattle.writer.specs.declared.Written.{Written}
 use Rattle.writer.specs.declared.Written.the-variants.{Bytes, Refused}
-use Rattle.reporter_spec.specs.Program.{capacity, refusalLine, report, placelist}
+use Rattle.reporter.specs.declared.SettingsFrame.{SettingsFrame}
+use Rattle.reporter.specs.declared.SettingsFrame.the-variants.{Read, Malformed}
+use Rattle.reporter_spec.specs.Program.{capacity, settingsMalformed, settingsIn, refusalLine, report, placelist}
+
+-- the settings frame of an input: its settings, or that it is malformed
+unfoldable pub frameIn : List ℕ → SettingsFrame
+frameIn input = cond (settingsMalformed input) Malformed (Read (settingsIn input))
 
 -- the last line, from what a run answers: two digits of end, eight of replays, eight of visits
 unfoldable pub runLine : Run → List ℕ

@@ -9,8 +9,7 @@ ghost use Rattle.reporter_spec.specs.Program.{placelist};
 ghost use Rattle.reporter.specs.Reporting.{logReport, mostOutput, reportingRefusal, reported, outputAfter};
 use crate::lines::write_refusal;
 use crate::lines::write_report;
-use crate::settings_frame::is_well_formed;
-use crate::settings_frame::settings_of;
+use crate::settings_frame::settings_in;
 use limits::Refusal;
 use limits::Settings;
 use listing::Listing;
@@ -27,11 +26,21 @@ pub const MOST_INPUT: usize = 65536;
 // The most bytes that are written: a full list of 4,096 lines of 9 bytes, and the last line of 19.
 pub const MOST_OUTPUT: usize = 36883;
 
-// The digits of the settings frame: two each of A, mi and mo, four of T.
-const SETTINGS_DIGITS: usize = 10;
+// What the first line of an input is: the settings that it writes, or no settings frame.
+pub enum SettingsFrame {
+    Read(Settings),
+    Malformed,
+}
 
-// The bytes of the settings frame, with its line feed.
-const SETTINGS_BYTES: usize = 11;
+// The digits of A, mi and mo each, and of T.
+const BOUND_DIGITS: usize = 2;
+
+const THRESHOLD_DIGITS: usize = 4;
+
+// The digits of the settings frame, and its bytes with the line feed.
+const SETTINGS_DIGITS: usize = 3 * BOUND_DIGITS + THRESHOLD_DIGITS;
+
+const SETTINGS_BYTES: usize = SETTINGS_DIGITS + 1;
 
 // The words of the cache of rejected places: document 01's "Shelf 1,024 words".
 const CACHE_WORDS: usize = 1024;
@@ -81,10 +90,10 @@ fn report_input(input: &[u8], output: &mut [u8]) -> usize
     if MOST_INPUT < input.len() {
         return write_refusal(Refusal::TooLarge { line: 0 }, output);
     }
-    if !is_well_formed(input) {
-        return write_refusal(Refusal::InvalidSetting, output);
+    match settings_in(input) {
+        SettingsFrame::Malformed => write_refusal(Refusal::InvalidSetting, output),
+        SettingsFrame::Read(settings) => report_log(settings, &input[SETTINGS_BYTES..], output),
     }
-    report_log(settings_of(input), &input[SETTINGS_BYTES..], output)
 }
 
 // Writes what placelist writes for an input, and answers how many bytes that is. A buffer that is too short for the longest output is refused, and

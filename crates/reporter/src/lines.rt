@@ -8,11 +8,11 @@ ghost use Rattle.writer.specs.Writing.{listText};
 ghost use Rattle.reporter_spec.specs.Program.{refusalLine};
 ghost use Rattle.reporter.specs.Reporting.{runLine};
 use discovery_spec::Run;
+use hex_digits::hex::write_hex;
 use limits::Refusal;
 use limits::number_of;
 use limits::value_of;
 use log_lines::LINE_FEED;
-use writer::hex::write_hex;
 use writer::write_lines;
 
 // Writes the line of a refusal, and answers its bytes: FF, two digits of its number, eight of its line, a line feed.

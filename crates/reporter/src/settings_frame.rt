@@ -1,51 +1,47 @@
 // The first line of the input, the settings frame: document 01, "Thinning and writing", last paragraph.
 ghost use mathlib.Core.Path.{_≡_};
-ghost use mathlib.Core.Bool.{not};
-ghost use Prim.Native.Nat.{_+_, _≤_};
-ghost use lib.ListN.{length, take, drop};
-ghost use Rattle.hex_digits.specs.Digits.{readHex};
-ghost use Rattle.reporter_spec.specs.Program.{settingsMalformed, settingsIn};
+ghost use Rattle.reporter.specs.Reporting.{frameIn};
+use crate::BOUND_DIGITS;
 use crate::SETTINGS_DIGITS;
-use hex_digits::Digit;
-use hex_digits::hex::classify;
-use hex_digits::hex::value;
+use crate::SettingsFrame;
+use hex_digits::Number;
+use hex_digits::hex::read_hex;
 use limits::Settings;
 use log_lines::LINE_FEED;
 
-// Whether an input begins with ten digits and a line feed.
-pub fn is_well_formed(input: &[u8]) -> bool
-    ensures { λ r. ⌜ r ≡ not (settingsMalformed (now (input .entry))) ⌝ }
+// Where the digits of mi, mo and T begin.
+const INPUTS_AT: usize = BOUND_DIGITS;
+
+const OUTPUTS_AT: usize = 2 * BOUND_DIGITS;
+
+const THRESHOLD_AT: usize = 3 * BOUND_DIGITS;
+
+// The settings that an input begins with: the digits of A, mi, mo and T, and a line feed.
+pub fn settings_in(input: &[u8]) -> SettingsFrame
+    ensures { λ r. ⌜ r ≡ frameIn (now (input .entry)) ⌝ }
 {
     if input.len() <= SETTINGS_DIGITS {
-        return false;
+        return SettingsFrame::Malformed;
     }
-    let mut at = 0;
-    while at < SETTINGS_DIGITS {
-        match classify(input[at]) {
-            Digit::NonDigit => return false,
-            Digit::Value(_) => at += 1,
-        }
+    if input[SETTINGS_DIGITS] != LINE_FEED {
+        return SettingsFrame::Malformed;
     }
-    input[SETTINGS_DIGITS] == LINE_FEED
-}
-
-// The number that the two digits from an index write.
-fn two_digits(input: &[u8], from: usize) -> u8
-    requires { ⌜ from + 2 ≤ length (now input) ⌝ }
-    ensures { λ r. ⌜ r ≡ readHex (take 2 (drop from (now (input .entry)))) ⌝ }
-{
-    16 * value(input[from]) + value(input[from + 1])
-}
-
-// The settings that the ten digits write.
-pub fn settings_of(input: &[u8]) -> Settings
-    requires { ⌜ 10 ≤ length (now input) ⌝ }
-    ensures { λ r. ⌜ r ≡ settingsIn (now (input .entry)) ⌝ }
-{
-    Settings {
-        activities: two_digits(input, 0),
-        inputs: two_digits(input, 2),
-        outputs: two_digits(input, 4),
-        threshold: 256 * two_digits(input, 6) as u16 + two_digits(input, 8) as u16,
-    }
+    let Number::Value(activities) = read_hex(&input[0..INPUTS_AT]) else {
+        return SettingsFrame::Malformed;
+    };
+    let Number::Value(inputs) = read_hex(&input[INPUTS_AT..OUTPUTS_AT]) else {
+        return SettingsFrame::Malformed;
+    };
+    let Number::Value(outputs) = read_hex(&input[OUTPUTS_AT..THRESHOLD_AT]) else {
+        return SettingsFrame::Malformed;
+    };
+    let Number::Value(threshold) = read_hex(&input[THRESHOLD_AT..SETTINGS_DIGITS]) else {
+        return SettingsFrame::Malformed;
+    };
+    SettingsFrame::Read(Settings {
+        activities: activities as u8,
+        inputs: inputs as u8,
+        outputs: outputs as u8,
+        threshold: threshold as u16,
+    })
 }

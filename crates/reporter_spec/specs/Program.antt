@@ -1,6 +1,6 @@
 -- The program placelist, from the bytes that it reads to the bytes that it writes. Document 01, "Thinning and writing", last paragraph.
 -- Assumes nothing.
-use Prim.Native.Nat.{ℕ}
+use Prim.Native.Nat.{ℕ, _+_, _*_}
 use mathlib.Core.Bool.{Bool, not, cond, _&&_}
 use mathlib.Core.List.{List, [], _∷_, _++_}
 use mathlib.Core.Option.{Option}
@@ -25,23 +25,33 @@ mostInput = 65536
 unfoldable pub capacity : Capacity
 capacity = holding 1024 4096 1000000
 
--- the settings frame, the first line: two digits each of A, mi and mo, four of T, a line feed
+-- the digits of A, mi and mo each, of T, and of all four
+abbrev pub boundDigits : ℕ
+boundDigits = 2
+
+abbrev pub thresholdDigits : ℕ
+thresholdDigits = 4
+
+abbrev pub settingsDigits : ℕ
+settingsDigits = 3 * boundDigits + thresholdDigits
+
+-- the settings frame, the first line: the digits of A, mi, mo and T, a line feed
 unfoldable pub settingsMalformed : List ℕ → Bool
-settingsMalformed input = not (all isDigit (take 10 input) && eqb (getD input 10 0) lineFeed)
+settingsMalformed input = not (all isDigit (take settingsDigits input) && eqb (getD input settingsDigits 0) lineFeed)
 
 -- the settings that it writes
 unfoldable pub settingsIn : List ℕ → Settings
 settingsIn input =
     record {
-      activities = readHex (take 2 input);
-      inputs = readHex (take 2 (drop 2 input));
-      outputs = readHex (take 2 (drop 4 input));
-      threshold = readHex (take 4 (drop 6 input));
+      activities = readHex (take boundDigits input);
+      inputs = readHex (take boundDigits (drop boundDigits input));
+      outputs = readHex (take boundDigits (drop (2 * boundDigits) input));
+      threshold = readHex (take thresholdDigits (drop (3 * boundDigits) input));
     }
 
 -- the log is what follows it
 unfoldable pub logIn : List ℕ → List ℕ
-logIn input = drop 11 input
+logIn input = drop (settingsDigits + 1) input
 
 -- first an input that is too long (oversize, line 0), then the form of the settings frame (number 1), then what the search refuses
 unfoldable pub programRefusal : List ℕ → Option Refusal

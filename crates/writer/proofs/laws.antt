@@ -1,4 +1,3 @@
-pub mod DigitsFromBack
 pub mod BufferParts
 pub mod PlaceLines
 pub mod LineByLine

@@ -5,12 +5,10 @@ ghost use lib.ListN.{length};
 ghost use Rattle.foundation.specs.Buffers.{overwrite};
 ghost use Rattle.limits.specs.Refusals.{Numbered};
 ghost use Rattle.writer.specs.Writing.{placeLine, listText, writingRefusal, written, writtenNumber, writtenValue, writtenAfter};
-use crate::hex::write_hex;
+use hex_digits::hex::write_hex;
 use limits::Refusal;
 use places::list::first_invalid;
 use places::place_of;
-
-pub mod hex; // hex.rt: numbers in digits
 
 // The bytes of a place's line: four digits of inputs, four of outputs, a line feed.
 const LINE_BYTES: usize = 9;

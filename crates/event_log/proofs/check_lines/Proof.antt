@@ -1,12 +1,12 @@
 -- `event_log::check_lines` meets its contract. The loop's invariant: the pass from where it stands answers what the whole text is answered with,
 -- and the counts are small enough to grow. The measure is what is left of the text.
 -- Assumes nothing.
-use Prim.Native.Nat.{_*_, _-_, _≤_}
+use Prim.Native.Nat.{_*_, _-_, _^_, _≤_}
 use mathlib.Core.Path.{_≡_, sym, _∙_}
 use native.Mathlib.Omega.{arith}
 use borrow.Author.Needs.{needs}
 use lib.ListN.{length, drop}
-use Rattle.event_log_spec.specs.Frames.{mostFrames}
+use Rattle.event_log_spec.specs.Frames.{countDigits, mostFrames}
 use Rattle.event_log_spec.specs.Lines.{lines, firstLine}
 use Rattle.event_log.specs.Pass.{linesChecked}
 use Rattle.event_log.proofs.laws.LogPass.{pass, pass-all, at-end, at-faulty, at-sound, SoundLine, sound-line}
@@ -17,7 +17,7 @@ abbrev Inv-loop : tie.InvT-loop
 Inv-loop activities text at₀ frames₀ cases₀ at frames cases =
     (pass activities frames cases (lines (drop at text)) ≡ linesChecked activities text)
     × (frames ≤ mostFrames)
-    × (cases ≤ 65535 * frames)
+    × (cases ≤ 16 ^ countDigits * frames)
 
 abbrev μ-loop : tie.MeasureT-loop
 μ-loop activities text at₀ frames₀ cases₀ at frames cases = length text - at
@@ -38,9 +38,6 @@ returns c =
     let k = c .before .before .before in
     sym (at-faulty _ _ _ _ _ _ (k .before .loop-test .taken) (sym (k .check-line .ensures) ∙ c .before .refusal .given .1))
     ∙ k .before .before .loop .inv .0
-
-cast-cases : tie.Need-cast-cases Inv-loop μ-loop
-cast-cases c = omega (arith, sound c .small)
 
 add-cases : tie.Need-add-cases Inv-loop μ-loop
 add-cases c = omega (arith, sound c .small)
@@ -72,7 +69,6 @@ check-lines-spec =
     returns
     (λ c. search needs)  -- enum-known-next
     (λ c. omega arith)  -- add-frames
-    cast-cases
     add-cases
     loop-less
     loop-again

@@ -16,7 +16,7 @@ use Rattle.foundation.specs.Buffers.{overwrite}
 use Rattle.foundation.proofs.laws.Buffers.{overwrite-more, take-overwritten}
 use Rattle.hex_digits.specs.Digits.{writeHex, lineFeed}
 use Rattle.hex_digits.proofs.laws.DigitLaws.{length-write}
-use Rattle.event_log_spec.specs.Frames.{Frame, FrameUnder, WrittenLog, countDigits, mostEvents, mostFrames, writeFrame}
+use Rattle.event_log_spec.specs.Frames.{Frame, FrameUnder, WrittenLog, countDigits, mostFrames, longestFrame, writeFrame}
 use Rattle.event_log_spec.proofs.laws.PairLaws.{length-pairs}
 use Rattle.event_log.specs.Stepping.{casesAt, traceEnd}
 use Rattle.event_log.specs.FrameIndex.{startUnit, caseUnit, indexWord, frameIndex}
@@ -35,7 +35,7 @@ frame-bytes f =
       length-pairs (f .trace),
     )
 
-frames-bytes : {A : ℕ} {frames : List Frame} → Each (FrameUnder A) frames → length (flatMap writeFrame frames) ≤ (countDigits + 2 * mostEvents + 1) * length frames
+frames-bytes : {A : ℕ} {frames : List Frame} → Each (FrameUnder A) frames → length (flatMap writeFrame frames) ≤ (longestFrame + 1) * length frames
 unfolding flatMap
 frames-bytes each-nil = omega arith
 frames-bytes (each-cons {x = f} {xs = frames} here later) =

@@ -1,43 +1,38 @@
--- Stepping through the frames of a log: what the count and the end of a trace are at an index, byte by byte, and that of a text that goes on
--- with a frame they are the frame's own.
+-- Stepping through the frames of a log: where a trace ends, byte by byte, and that of a text that goes on with a frame the count and the end at an
+-- index are the frame's own.
 -- Assumes nothing.
 use Prim.Native.Nat.{ℕ, suc, _+_, _*_, _/_, _%_, _^_, _≤_, _<_}
 use native.Mathlib.Omega.{arith}
-use mathlib.Core.Path.{_≡_, refl, ap}
+use mathlib.Core.Path.{_≡_, refl, sym}
 use mathlib.Core.List.{List, [], _∷_, _++_, flatMap}
-use borrow.Author.Tests.{le-leb, lt-leb, ne-eqb}
-use lib.ListN.{length, drop, getD, length-append, length-drop, drop-of-length-le}
+use borrow.Author.Tests.{le-leb, eqb-true, ne-eqb}
+use lib.Dec.{eqb}
+use lib.ListN.{length, drop, getD, length-append, drop-of-length-le}
 use lib.Seq.{drop-cons, take-at, drop-drop}
-use Rattle.hex_digits.specs.Digits.{digitValue, readHex, writeHex, lineFeed}
+use Rattle.foundation.proofs.laws.Booleans.{by-test}
+use Rattle.foundation.proofs.laws.Each.{each-all}
+use Rattle.hex_digits.specs.Digits.{isDigit, writeHex, lineFeed}
 use Rattle.event_log_spec.specs.Frames.{countDigits}
+use Rattle.log_lines.specs.Reading.{countIn}
 use Rattle.event_log.specs.Stepping.{casesAt, pairsLength, traceEnd}
-use Rattle.hex_digits.proofs.laws.DigitLaws.{byte-is-digit, read-write, length-write}
+use Rattle.hex_digits.proofs.laws.DigitLaws.{byte-is-digit, read-write, write-digits, length-write}
 use Rattle.event_log_spec.proofs.laws.TextLines.{digit-no-feed}
-use Rattle.log_lines.proofs.laws.Counts.{four-from}
 
-module _ (text : List ℕ) (from : ℕ) where
-  pub cases-short : length text < from + countDigits → casesAt text from ≡ 0
-  unfolding casesAt
-  cases-short h = rw (lt-leb (from + countDigits) (length text) h)
-
-  -- the four digits, each by its place
-  pub cases-number : from + countDigits ≤ length text
-      → casesAt text from
-      ≡ 4096 * digitValue (getD text from 0)
-      + 256 * digitValue (getD text (from + 1) 0)
-      + 16 * digitValue (getD text (from + 2) 0)
-      + digitValue (getD text (from + 3) 0)
-  unfolding casesAt readHex
-  cases-number h = rw (le-leb (from + countDigits) (length text) h, four-from text from h) (omega arith)
-
-  -- where the text goes on with the digits of a case count, that is the count
-  pub cases-written : (n : ℕ) (rest : List ℕ) → drop from text ≡ writeHex countDigits n ++ rest → n < 16 ^ countDigits → casesAt text from ≡ n
-  unfolding casesAt
-  cases-written n rest e small =
-      let digits = writeHex countDigits n in
-      let four = length-write countDigits n in
-      let room : from + countDigits ≤ length text = omega (arith, length-drop from text, ap length e, length-append digits rest) in
-      rw (le-leb (from + countDigits) (length text) room, e, take-at digits rest countDigits four) (read-write countDigits n small)
+-- where the text goes on with the digits of a case count, that is the count
+pub cases-written : (text : List ℕ) (from n : ℕ) (rest : List ℕ) → drop from text ≡ writeHex countDigits n ++ rest → n < 16 ^ countDigits
+    → casesAt text from ≡ n
+unfolding casesAt countIn
+cases-written text from n rest e small =
+    let digits = writeHex countDigits n in
+    let measured = length-write countDigits n in
+    let long : countDigits ≤ length (digits ++ rest) = omega (arith, length-append digits rest, measured) in
+    rw (
+      e,
+      take-at digits rest countDigits measured,
+      le-leb countDigits (length (digits ++ rest)) long,
+      each-all isDigit (write-digits countDigits n),
+      read-write countDigits n small,
+    ) (by-test (eqb n 0) (λ t. rw t (sym (eqb-true n 0 t))) (λ f. rw f))
 
 -- a pair that begins with a line feed ends the trace, and any other is stepped over
 pairs-end : (bytes : List ℕ) → pairsLength (lineFeed ∷ bytes) ≡ 0

@@ -4,7 +4,7 @@
 use Prim.Native.Nat.{ℕ, zero, suc, _<_}
 use native.Mathlib.Omega.{arith}
 use mathlib.Core.Path.{_≡_, refl, ap}
-use mathlib.Core.Bool.{Bool, true, false, cond, false≢true, and-eq-true-iff}
+use mathlib.Core.Bool.{Bool, true, false, cond, _&&_, false≢true, and-assoc, and-eq-true-iff}
 use mathlib.Core.List.{List, [], _∷_, _++_, map, flatMap}
 use lib.Dec.{eqb}
 use lib.ListN.{length, take, drop, getD, length-append}
@@ -71,6 +71,10 @@ module _ {A : Type 0} (p : A → Bool) where
   pub each-all : {xs : List A} → Each (λ (x : A). p x ≡ true) xs → all p xs ≡ true
   each-all each-nil = refl
   each-all (each-cons here later) = rw here (each-all later)
+
+  pub all-append : (xs ys : List A) → all p (xs ++ ys) ≡ all p xs && all p ys
+  all-append [] ys = refl
+  all-append (x ∷ xs) ys = rw (all-append xs ys, and-assoc)
 
   pub none-each : (xs : List A) → any p xs ≡ false → Each (λ (x : A). p x ≡ false) xs
   none-each [] e = each-nil

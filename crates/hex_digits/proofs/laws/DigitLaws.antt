@@ -91,6 +91,9 @@ value-small byte = go (digitOf byte) refl
     go (Value v) e = rw e at (digit-writes byte (ap isValue e) .small)
     go NonDigit e = lit< tt
 
+pub digit-below : (byte v : ℕ) → digitOf byte ≡ Value v → v < 16
+digit-below byte v e = rw e at (value-small byte)
+
 power-positive : (k : ℕ) → 0 < 16 ^ k
 power-positive k = one-le-pow k 16 (lit< tt)
 

@@ -1,5 +1,5 @@
 -- A line by what its two parts say, its count and its activities: where either is malformed so is the line, and else its length, its case count
--- and the faults of its trace are those that the parts give. The digits of the count are the line's first four bytes, and what is left of the
+-- and the faults of its trace are those that the parts give. The digits of the count are the line's first bytes, and what is left of the
 -- line is the first line of the text after them.
 -- Assumes nothing.
 use Prim.Native.Nat.{ℕ, _+_, _-_, _%_, _≤_, _<_}
@@ -21,7 +21,7 @@ use Rattle.log_lines.specs.declared.Activities.the-variants as Activitie
 use Rattle.log_lines.specs.declared.Count.the-variants as Count
 use Rattle.log_lines.specs.declared.LineChecked.the-variants.{Sound, Faulty}
 use Rattle.hex_digits.specs.Digits.{isDigit, readHex, lineFeed}
-use Rattle.event_log_spec.specs.Frames.{countDigits, mostEvents}
+use Rattle.event_log_spec.specs.Frames.{countDigits, mostEvents, shortestFrame, longestFrame}
 use Rattle.event_log_spec.specs.Lines.{Line, firstLine, readPairs, frameOf}
 use Rattle.event_log_spec.specs.Checking.{malformed, namesUnknown, endpointMisplaced}
 use Rattle.log_lines.specs.Reading.{countIn, inPairs, activitiesIn, lineChecked}
@@ -54,7 +54,7 @@ first-digits text (each-cons {x = byte} {xs = digits} digit later) =
 
 -- a text that begins with a count of n cases
 pub record Counted (text : List ℕ) (n : ℕ) : Type 0 where
-  pub four : countDigits ≤ length text
+  pub enough : countDigits ≤ length text
   pub digits : EachDigit (take countDigits text)
   pub number : readHex (take countDigits text) ≡ n
   pub positive : 1 ≤ n
@@ -71,7 +71,7 @@ counted-front text e =
     let parts₂ = and-eq-true-iff (long && digits) (not zero) .0 e in
     let parts₁ = and-eq-true-iff long digits .0 (parts₂ .0) in
     record {
-      four = leb-true countDigits (length text) (parts₁ .0);
+      enough = leb-true countDigits (length text) (parts₁ .0);
       digits = all-each isDigit (take countDigits text) (parts₁ .1);
       number = refl;
       positive =
@@ -134,7 +134,7 @@ module _ (text : List ℕ) (n : ℕ) (c : Counted text n) where
   line-parts = ap firstLine (sym (take-append-drop countDigits text)) ∙ first-digits (drop countDigits text) (c .digits)
 
   front-length : length (take countDigits text) ≡ countDigits
-  front-length = length-take-le countDigits text (c .four)
+  front-length = length-take-le countDigits text (c .enough)
 
   whole-length : length (take countDigits text ++ rest .bytes) ≡ countDigits + length (rest .bytes)
   whole-length = length-append (take countDigits text) (rest .bytes) ∙ ap (λ (k : ℕ). k + length (rest .bytes)) front-length
@@ -216,11 +216,11 @@ module _ (text : List ℕ) (n : ℕ) (c : Counted text n) where
 
 -- what the shape of a line decides
 module _ {A from n end : ℕ} {unknown misplaced : Bool} {l : Line} (s : LineShape A from n end unknown misplaced l) where
-  pub shape-short : end - from < 8 → malformed l ≡ true
+  pub shape-short : end - from < shortestFrame → malformed l ≡ true
   shape-short short =
       by-test (malformed l) (λ m. m) (λ m. absurd (omega (arith, well-formed l m .enough, s .ends)))
 
-  pub shape-formed : 8 ≤ end - from → malformed l ≡ false
+  pub shape-formed : shortestFrame ≤ end - from → malformed l ≡ false
   shape-formed enough =
       not-malformed
       (record {
@@ -231,10 +231,10 @@ module _ {A from n end : ℕ} {unknown misplaced : Bool} {l : Line} (s : LineSha
         counted = rw (s .cases) (s .positive);
       })
 
-  pub shape-long : 512 < end - from → mostEvents < length (frameOf l .trace)
+  pub shape-long : longestFrame < end - from → mostEvents < length (frameOf l .trace)
   shape-long h = rw (trace-length l) (omega (arith, s .ends))
 
-  pub shape-fits : end - from ≤ 512 → length (frameOf l .trace) ≤ mostEvents
+  pub shape-fits : end - from ≤ longestFrame → length (frameOf l .trace) ≤ mostEvents
   shape-fits h = rw (trace-length l) (omega (arith, s .ends))
 
 -- what checking the line answers, from its first fault or from its having none

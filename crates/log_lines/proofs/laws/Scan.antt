@@ -3,35 +3,34 @@
 -- Assumes nothing.
 use Prim.Native.Nat.{ℕ, suc, _+_, _-_, _%_, _≤_, _<_}
 use mathlib.Core.Path.{_≡_, refl, sym}
-use mathlib.Core.Bool.{Bool, true, false, cond, _&&_, _||_, and-eq-true-iff, and-false, or-false, or-assoc}
+use mathlib.Core.Bool.{Bool, true, false, cond, _&&_, _||_, and-eq-true-iff, and-true, and-false, or-false, or-assoc}
 use mathlib.Core.List.{List, [], _∷_}
 use native.Mathlib.Nat.{add-zero}
-use native.Mathlib.Numerals.{add-one}
 use native.Mathlib.Omega.{arith}
 use borrow.Author.Tests.{eqb-true, eqb-false, ne-eqb}
 use lib.Dec.{eqb, leb}
-use lib.ListN.{length, drop, getD, drop-of-length-le}
+use lib.ListN.{length, take, drop, getD, drop-of-length-le}
 use lib.Seq.{drop-cons}
-use Rattle.foundation.specs.Lists.{any, foldl}
+use Rattle.foundation.specs.Lists.{all, any, foldl}
 use Rattle.foundation.proofs.laws.Booleans.{by-test}
 use Rattle.log_lines.specs.declared.Activities.{Activities}
 use Rattle.log_lines.specs.declared.Activities.the-variants.{Read, Malformed}
-use Rattle.hex_digits.specs.declared.Pair.{Pair}
-use Rattle.hex_digits.specs.declared.Pair.the-variants.{Number, NonDigits}
+use Rattle.hex_digits.specs.declared.Number.{Number}
+use Rattle.hex_digits.specs.declared.Number.the-variants.{Value, NonDigits}
 use Rattle.log_lines.specs.declared.Phase.{Phase}
 use Rattle.log_lines.specs.declared.Phase.the-variants.{Before}
-use Rattle.hex_digits.specs.Digits.{isDigit, readHex, pairOf, lineFeed}
+use Rattle.hex_digits.specs.Digits.{isDigit, readHex, numberIn, lineFeed}
 use Rattle.event_log_spec.specs.Lines.{Line, firstLine, readPairs}
 use Rattle.event_log_spec.specs.Checking.{namesUnknown}
 use Rattle.log_lines.specs.Reading.{nextPhase, incomplete, inPairs, activitiesIn}
 use Rattle.event_log_spec.proofs.laws.Lines.{withByte, first-none, first-feed, first-byte}
 use Rattle.event_log_spec.proofs.laws.TextLines.{digit-no-feed}
-use Rattle.hex_digits.proofs.laws.PairNumbers.{pair-digits, pair-no-digits}
+use Rattle.hex_digits.proofs.laws.NumberLaws.{digits-number, others-no-number}
 use Rattle.log_lines.proofs.laws.Phases.{phases-misplaced}
 
 -- on a number go on, else stop
-abbrev pub afterPair : Pair → (ℕ → Activities) → Activities
-afterPair (Number code) go = go code
+abbrev pub afterPair : Number → (ℕ → Activities) → Activities
+afterPair (Value code) go = go code
 afterPair NonDigits go = Malformed
 
 unfoldable pub scan : ℕ → ℕ → Phase → Bool → List ℕ → Activities
@@ -41,7 +40,7 @@ scan A at phase unknown (first ∷ (second ∷ bytes)) =
     cond
     (eqb first lineFeed)
     (Read at unknown (incomplete phase))
-    (afterPair (pairOf first second) (λ (code : ℕ). scan A (at + 2) (nextPhase phase code) (unknown || leb A code) bytes))
+    (afterPair (numberIn (first ∷ second ∷ [])) (λ (code : ℕ). scan A (at + 2) (nextPhase phase code) (unknown || leb A code) bytes))
 
 -- what the definitions say where a pass stands, at `at`, having read some events
 abbrev reading : ℕ → ℕ → Phase → Bool → Line → Activities
@@ -104,13 +103,13 @@ module _ (A at : ℕ) (phase : Phase) (unknown : Bool) where
   at-first-feed first bytes e = rw (eqb-true first lineFeed e, first-feed bytes, at-feed)
 
   -- at two bytes of which one is no digit
-  at-non-digits : (first second : ℕ) (bytes : List ℕ) → eqb first lineFeed ≡ false → isDigit first && isDigit second ≡ false
+  at-non-digits : (first second : ℕ) (bytes : List ℕ) → eqb first lineFeed ≡ false → all isDigit (first ∷ second ∷ []) ≡ false
       → Malformed ≡ reading A at phase unknown (firstLine (first ∷ second ∷ bytes))
   at-non-digits first second bytes e f =
       rw (first-byte first (second ∷ bytes) (eqb-false first lineFeed e))
       (by-test
       (isDigit first)
-      (λ d. sym (after-digit first second bytes (rw d at f)))
+      (λ d. sym (after-digit first second bytes (rw (d, and-true (isDigit second)) at f)))
       (λ d. sym (at-other first (firstLine (second ∷ bytes)) d)))
 
 -- two digits begin a line
@@ -133,15 +132,15 @@ scan-reads A at phase unknown (first ∷ (second ∷ bytes)) =
     (eqb first lineFeed)
     (λ e. rw e (at-first-feed A at phase unknown first (second ∷ bytes) e))
     (λ e. by-test
-    (isDigit first && isDigit second)
-    (λ f. rw (e, pair-digits first second f)
-    (let d = and-eq-true-iff (isDigit first) (isDigit second) .0 f in
+    (all isDigit (first ∷ second ∷ []))
+    (λ f. rw (e, digits-number (first ∷ second ∷ []) f)
+    (let d = and-eq-true-iff (isDigit first) (isDigit second) .0 (rw (and-true (isDigit second)) at f) in
     rw (
       first-pair first second bytes (d .0) (d .1),
       over-pair A at phase unknown first second (firstLine bytes) (d .0) (d .1),
     )
     (scan-reads A (at + 2) (nextPhase phase (readHex (first ∷ second ∷ []))) (unknown || leb A (readHex (first ∷ second ∷ []))) bytes)))
-    (λ f. rw (e, pair-no-digits first second f) (at-non-digits A at phase unknown first second bytes e f)))
+    (λ f. rw (e, others-no-number (first ∷ second ∷ []) f) (at-non-digits A at phase unknown first second bytes e f)))
 
 -- a pass from the first activity of a line
 pub scan-first : (A from : ℕ) (bytes : List ℕ) → scan A from Before false bytes ≡ activitiesIn A from (firstLine bytes)
@@ -175,17 +174,17 @@ module _ (A : ℕ) (text : List ℕ) (at : ℕ) (phase : Phase) (unknown : Bool)
   scan-pair : at + 1 < length text → (getD text at 0 ≡ lineFeed → ⊥)
       → scan A at phase unknown (drop at text)
       ≡ afterPair
-      (pairOf (getD text at 0) (getD text (at + 1) 0))
+      (numberIn (take 2 (drop at text)))
       (λ (code : ℕ). scan A (at + 2) (nextPhase phase code) (unknown || leb A code) (drop (at + 2) text))
   unfolding scan
   scan-pair h other =
-      rw (drop-cons text at 0 (omega arith), drop-cons text (suc at) 0 (omega arith), ne-eqb _ _ other, add-one at, two-more at)
+      rw (drop-cons text at 0 (omega arith), drop-cons text (suc at) 0 (omega arith), ne-eqb _ _ other, two-more at)
 
-  pub scan-others : at + 1 < length text → (getD text at 0 ≡ lineFeed → ⊥) → pairOf (getD text at 0) (getD text (at + 1) 0) ≡ NonDigits
+  pub scan-others : at + 1 < length text → (getD text at 0 ≡ lineFeed → ⊥) → numberIn (take 2 (drop at text)) ≡ NonDigits
       → scan A at phase unknown (drop at text) ≡ Malformed
   scan-others h other e = rw (scan-pair h other, e)
 
   pub scan-number : (code : ℕ) → at + 1 < length text → (getD text at 0 ≡ lineFeed → ⊥)
-      → pairOf (getD text at 0) (getD text (at + 1) 0) ≡ Number code
+      → numberIn (take 2 (drop at text)) ≡ Value code
       → scan A at phase unknown (drop at text) ≡ scan A (at + 2) (nextPhase phase code) (unknown || leb A code) (drop (at + 2) text)
   scan-number code h other e = rw (scan-pair h other, e)

@@ -1,69 +1,92 @@
--- The settings frame: it is malformed where it is too short or where a byte before the line feed is no digit, and of ten digits the byte after them
--- decides. Its numbers are made of those of two digits.
+-- The settings frame: it is malformed where it is too short, where no line feed stands behind its digits, or where a byte of one of its numbers is no
+-- digit; else its settings are those numbers. The digits of the frame are those of its four numbers, one after the other.
 -- Assumes nothing.
-use Prim.Native.Nat.{ℕ, suc, _+_, _*_, _≤_, _<_}
-use native.Mathlib.Numerals.{add-one}
+use Prim.Native.Nat.{ℕ, _+_, _*_, _≤_, _<_}
 use native.Mathlib.Omega.{arith}
-use mathlib.Core.Path.{_≡_, sym, _∙_}
-use mathlib.Core.Bool.{Bool, true, false, true≢false, not, Bool·not-not, and-false}
-use mathlib.Core.List.{List, [], _∷_}
-use lib.Dec.{eqb, ltb}
+use mathlib.Core.Path.{_≡_}
+use mathlib.Core.Bool.{true, false, and-false}
+use mathlib.Core.List.{List}
+use lib.Dec.{ltb}
 use lib.ListN.{length, take, drop, getD, List·getD-eq-default}
-use lib.Seq.{length-take-le, take-suc, drop-cons, getD-take}
-use borrow.Author.Tests.{ltb-true, ltb-false}
-use Rattle.foundation.specs.Lists.{all, each-nil, each-cons}
-use Rattle.foundation.proofs.laws.Booleans.{by-test}
-use Rattle.foundation.proofs.laws.Each.{all-each, each-all, each-append, all-at}
-use Rattle.hex_digits.specs.Digits.{isDigit, digitValue, readHex, lineFeed}
-use Rattle.hex_digits.proofs.laws.PairNumbers.{four-digits}
-use Rattle.log_lines.proofs.laws.Counts.{four-from}
-use Rattle.reporter_spec.specs.Program.{settingsMalformed}
-
--- one element more passes
-pub all-next : (p : ℕ → Bool) (xs : List ℕ) (k : ℕ) → k < length xs → all p (take k xs) ≡ true → p (getD xs k 0) ≡ true
-    → all p (take (k + 1) xs) ≡ true
-all-next p xs k h before e =
-    rw (add-one k, take-suc xs k 0 h) (each-all p (each-append (all-each p (take k xs) before) (each-cons e each-nil)))
+use lib.Seq.{take-add}
+use borrow.Author.Tests.{ltb-true, ltb-false, ne-eqb}
+use Rattle.foundation.specs.Lists.{all}
+use Rattle.foundation.proofs.laws.Booleans.{by-test, impossible}
+use Rattle.foundation.proofs.laws.Each.{all-append}
+use Rattle.limits.specs.declared.Settings.{Settings}
+use Rattle.hex_digits.specs.declared.Number.the-variants.{Value, NonDigits}
+use Rattle.hex_digits.specs.Digits.{isDigit, numberIn, lineFeed}
+use Rattle.hex_digits.proofs.laws.NumberLaws.{number-digits, no-number-others}
+use Rattle.reporter_spec.specs.Program.{boundDigits, thresholdDigits, settingsDigits, settingsMalformed, settingsIn}
+use Rattle.reporter.specs.declared.SettingsFrame.the-variants.{Read, Malformed}
+use Rattle.reporter.specs.Reporting.{frameIn}
 
 module _ (input : List ℕ) where
-  pub frame-short : length input ≤ 10 → settingsMalformed input ≡ true
-  unfolding settingsMalformed
-  frame-short h = rw (List·getD-eq-default input 0 h, and-false)
+  pub frame-unended : (getD input settingsDigits 0 ≡ lineFeed → ⊥) → frameIn input ≡ Malformed
+  unfolding frameIn settingsMalformed
+  frame-unended h = rw (ne-eqb (getD input settingsDigits 0) lineFeed h, and-false (all isDigit (take settingsDigits input)))
 
-  pub digit-missing : (k : ℕ) → k < 10 → 10 < length input → isDigit (getD input k 0) ≡ false → settingsMalformed input ≡ true
-  unfolding settingsMalformed
-  digit-missing k early long e =
-      by-test
-      (all isDigit (take 10 input))
-      (λ t.
-      let there : k < length (take 10 input) = omega (arith, length-take-le 10 input (omega arith)) in
-      absurd (true≢false (sym (rw (getD-take 10 input k 0 early) at (all-at isDigit (take 10 input) k 0 t there)) ∙ e)))
-      (λ f. rw f)
+  pub frame-short : length input ≤ settingsDigits → frameIn input ≡ Malformed
+  frame-short h = let none = List·getD-eq-default input 0 h in frame-unended (λ e. omega (arith, none, e))
 
-  pub line-feed-decides : all isDigit (take 10 input) ≡ true → not (settingsMalformed input) ≡ eqb (getD input 10 0) lineFeed
-  unfolding settingsMalformed
-  line-feed-decides e = rw e (Bool·not-not (eqb (getD input 10 0) lineFeed))
+  -- one of the numbers, with so many digits before it and after it
+  pub number-missing : (before digits after : ℕ) → before + (digits + after) ≡ settingsDigits → numberIn (take digits (drop before input)) ≡ NonDigits
+      → frameIn input ≡ Malformed
+  unfolding frameIn settingsMalformed
+  number-missing before digits after parts e =
+      let some-other : all isDigit (take (before + (digits + after)) input) ≡ false =
+      rw (
+        take-add before (digits + after) input,
+        all-append isDigit (take before input) (take (digits + after) (drop before input)),
+        take-add digits after (drop before input),
+        all-append isDigit (take digits (drop before input)) (take after (drop digits (drop before input))),
+        no-number-others (take digits (drop before input)) e,
+        and-false,
+      ) in
+      rw (rw parts at some-other)
+
+  -- all four are numbers
+  pub frame-read : (s : Settings) → getD input settingsDigits 0 ≡ lineFeed
+      → numberIn (take boundDigits input) ≡ Value (s .activities)
+      → numberIn (take boundDigits (drop boundDigits input)) ≡ Value (s .inputs)
+      → numberIn (take boundDigits (drop (2 * boundDigits) input)) ≡ Value (s .outputs)
+      → numberIn (take thresholdDigits (drop (3 * boundDigits) input)) ≡ Value (s .threshold)
+      → frameIn input ≡ Read s
+  unfolding frameIn settingsMalformed settingsIn
+  frame-read s ended a i o t =
+      let first = number-digits (take boundDigits input) (s .activities) a in
+      let second = number-digits (take boundDigits (drop boundDigits input)) (s .inputs) i in
+      let third = number-digits (take boundDigits (drop (2 * boundDigits) input)) (s .outputs) o in
+      let fourth = number-digits (take thresholdDigits (drop (3 * boundDigits) input)) (s .threshold) t in
+      let digits : all isDigit (take settingsDigits input) ≡ true =
+      rw (
+        take-add (3 * boundDigits) thresholdDigits input,
+        all-append isDigit (take (3 * boundDigits) input) (take thresholdDigits (drop (3 * boundDigits) input)),
+        take-add (2 * boundDigits) boundDigits input,
+        all-append isDigit (take (2 * boundDigits) input) (take boundDigits (drop (2 * boundDigits) input)),
+        take-add boundDigits boundDigits input,
+        all-append isDigit (take boundDigits input) (take boundDigits (drop boundDigits input)),
+        first .digits,
+        second .digits,
+        third .digits,
+        fourth .digits,
+      ) in
+      rw (digits, ended, first .number, second .number, third .number, fourth .number)
 
   -- a frame has a line feed after its digits
-  pub frame-long : settingsMalformed input ≡ false → 11 ≤ length input
-  frame-long e =
+  pub frame-long : (s : Settings) → frameIn input ≡ Read s → settingsDigits < length input
+  frame-long s e =
       by-test
-      (ltb 10 (length input))
-      (λ t. omega (arith, ltb-true))
-      (λ f. absurd (true≢false (sym (frame-short (ltb-false 10 (length input) f)) ∙ e)))
+      (ltb settingsDigits (length input))
+      (λ t. ltb-true settingsDigits (length input) t)
+      (λ f. let short = frame-short (ltb-false settingsDigits (length input) f) in impossible (cc))
 
--- the number of the two digits from an index, and of the four
-module _ (text : List ℕ) (from : ℕ) where
-  two-from : from + 2 ≤ length text → take 2 (drop from text) ≡ getD text from 0 ∷ getD text (from + 1) 0 ∷ []
-  two-from h = rw (add-one from, drop-cons text from 0 (omega arith), drop-cons text (suc from) 0 (omega arith))
+  -- what the frame says of the definitions
+  pub read-settings : (s : Settings) → frameIn input ≡ Read s → (settingsMalformed input ≡ false) × (settingsIn input ≡ s)
+  unfolding frameIn
+  read-settings s e =
+      by-test (settingsMalformed input) (λ t. let h = rw t at e in impossible (cc)) (λ f. (f, let h = rw f at e in cc))
 
-  pub two-number : from + 2 ≤ length text
-      → readHex (take 2 (drop from text)) ≡ 16 * digitValue (getD text from 0) + digitValue (getD text (from + 1) 0)
-  unfolding readHex
-  two-number h = rw (two-from h) (omega arith)
-
-pub four-number : (text : List ℕ) (from : ℕ) → from + 4 ≤ length text
-    → readHex (take 4 (drop from text)) ≡ 256 * readHex (take 2 (drop from text)) + readHex (take 2 (drop (from + 2) text))
-four-number text from h =
-    let fourth : from + 2 + 1 ≡ from + 3 = omega arith in
-    rw (four-from text from h, two-from text (from + 2) (omega arith), fourth) (four-digits _ _ _ _)
+  pub read-malformed : frameIn input ≡ Malformed → settingsMalformed input ≡ true
+  unfolding frameIn
+  read-malformed e = by-test (settingsMalformed input) (λ t. t) (λ f. let h = rw f at e in impossible (cc))

@@ -2,32 +2,20 @@
 -- after the frame decides.
 -- Assumes nothing.
 use borrow.Author.Needs.{needs}
-use borrow.Author.Tests.{not-true, not-false}
-use Prim.Native.Nat.{ℕ, _-_, _≤_}
+use Prim.Native.Nat.{ℕ, _+_, _-_, _<_}
 use native.Mathlib.Omega.{arith}
 use mathlib.Core.Path.{_≡_, sym, ap, ap₂, _∙_}
-use mathlib.Core.Bool.{false}
 use mathlib.Core.List.{List}
 use lib.ListN.{length, drop, length-drop}
 use lib.Seq.{take-all}
 use Rattle.foundation.specs.Buffers.{overwrite}
-use Rattle.reporter_spec.specs.Program.{settingsMalformed, logIn}
-use Rattle.reporter.specs.Reporting.{logReport}
-use Rattle.reporter.proofs.laws.FrameLaws.{frame-long}
+use Rattle.reporter_spec.specs.Program.{settingsDigits, logIn}
+use Rattle.reporter.specs.declared.SettingsFrame.the-variants.{Read}
+use Rattle.reporter.specs.Reporting.{frameIn, logReport}
+use Rattle.reporter.proofs.laws.FrameLaws.{frame-long, read-settings, read-malformed}
 use Rattle.reporter.proofs.laws.OutputRoom.{too-large, frame-malformed, log-decides}
 use Rattle.reporter.proofs.report_input.Statement.{statement}
 use Rattle.reporter.proofs.report_input.Tie as tie
-
--- past both tests there is a settings frame
-framed : (c : tie.Else2) → settingsMalformed (c .before .before .before .before .before .args .input .now) ≡ false
-framed c = not-true _ (sym (c .before .is-well-formed .ensures) ∙ not-false _ (c .if2 .left))
-
-long : (c : tie.Else2) → 11 ≤ length (c .before .before .before .before .before .args .input .now)
-long c = frame-long _ (framed c)
-
--- so the log starts inside the input, or at its end
-sub-report-log : tie.Need-sub-report-log
-sub-report-log c = omega (arith, long (c .before))
 
 returns : tie.Need-returns
 returns c =
@@ -35,27 +23,40 @@ returns c =
     let input = w .before .before .before .before .before .args .input .now in
     rw (too-large input (omega (arith, w .before .before .if1 .taken))) (w .write-refusal .ensures)
 
+-- the settings that were read
+framed : (c : tie.After-known-told)
+    → frameIn (c .before .before .before .before .before .before .before .args .input .now) ≡ Read (c .before .settings .given .0 .0)
+framed c = sym (c .before .before .before .settings-in .ensures) ∙ c .before .settings .given .1
+
+-- so the log starts inside the input, or at its end
+long : (c : tie.After-known-told) → settingsDigits < length (c .before .before .before .before .before .before .before .args .input .now)
+long c = frame-long _ _ (framed c)
+
 returns-2 : tie.Need-returns-2
 returns-2 c =
     let w = c .before .before in
-    let tested = w .before .before in
-    let input = tested .before .before .before .before .before .args .input .now in
-    let malformed = not-false _ (sym (tested .before .is-well-formed .ensures) ∙ not-true _ (tested .if2 .taken)) in
-    rw (frame-malformed input (omega (arith, tested .before .before .if1 .left)) malformed) (w .write-refusal2 .ensures)
+    let told = w .before .before in
+    let entry = told .before .before .before in
+    let input = entry .before .before .before .args .input .now in
+    let malformed = read-malformed input (sym (told .before .before .settings-in .ensures) ∙ told .enum-told .given .1) in
+    rw (frame-malformed input (omega (arith, entry .if1 .left)) malformed) (w .write-refusal2 .ensures)
 
 -- the log is what follows the frame
 returns-3 : tie.Need-returns-3
 unfolding logIn
 returns-3 c =
     let w = c .before .before in
-    let read = w .before .before .before in
-    let entry = read .before .before .before .before .before .before in
-    let input = entry .args .input .now in
-    let rest = take-all (length input - 11) (drop 11 input) (omega (arith, length-drop 11 input)) in
-    let decided = log-decides input (omega (arith, read .before .before .before .if1 .left)) (framed (read .before)) in
-    let whole = ap₂ logReport (read .settings-of .ensures) rest ∙ sym decided in (
+    let told = w .before .before .before in
+    let entry = told .before .before .before .before in
+    let args = entry .before .before .before .args in
+    let input = args .input .now in
+    let bytes = settingsDigits + 1 in
+    let rest = take-all (length input - bytes) (drop bytes input) (omega (arith, length-drop bytes input)) in
+    let read = read-settings input _ (framed told) in
+    let decided = log-decides input (omega (arith, entry .if1 .left)) (read .0) in
+    let whole = ap₂ logReport (sym (read .1)) rest ∙ sym decided in (
       w .report-log .ensures .0 ∙ ap length whole,
-      w .report-log .ensures .1 ∙ ap (λ (text : List ℕ). overwrite text (entry .args .output .now)) whole,
+      w .report-log .ensures .1 ∙ ap (λ (text : List ℕ). overwrite text (args .output .now)) whole,
     )
 
 pub report-input-spec : {M : Type 1} → statement M
@@ -65,14 +66,15 @@ report-input-spec =
     (λ c κs. search needs)  -- write-refusal-requires
     (λ c. search needs)  -- same-length
     returns
-    (λ c κs. search needs)  -- is-well-formed-requires
+    (λ c κs. search needs)  -- settings-in-requires
+    (λ c. search needs)  -- enum-told
     (λ c κs. search needs)  -- write-refusal-requires-2
-    (λ c. search needs)  -- same-length-2
-    returns-2
-    (λ c κs. omega (arith, long c))  -- settings-of-requires
-    sub-report-log
-    (λ c. omega (arith, long (c .before)))  -- part-report-log-start
+    (λ c. search needs)  -- enum-known-settings
+    (λ c. omega (arith, long c))  -- sub-report-log
+    (λ c. omega (arith, long c))  -- part-report-log-start
     (λ c. search needs)  -- part-report-log-end
     (λ c κs. search needs)  -- report-log-requires
+    (λ c. search needs)  -- same-length-2
+    returns-2
     (λ c. search needs)  -- same-length-3
     returns-3)

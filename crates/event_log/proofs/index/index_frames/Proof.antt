@@ -79,7 +79,6 @@ index-frames-spec =
     (λ c κs. search needs)  -- trace-end-requires
     (λ c. here c .onward)  -- sub-index-word
     (λ c κs. search needs)  -- cases-at-requires
-    (λ c. search needs)  -- cast-index-word
     index-word-requires
     (λ c. omega (arith, room (c .before .before) .1))  -- mul-index
     (λ c. room (c .before .before) .1)  -- slice-write-index

@@ -7,7 +7,7 @@ use native.Mathlib.Omega.{arith}
 use borrow.Author.Needs.{needs}
 use lib.ListN.{drop, length-drop}
 use lib.Seq.{drop-drop}
-use Rattle.event_log_spec.specs.Frames.{mostFrames}
+use Rattle.event_log_spec.specs.Frames.{countDigits, mostFrames}
 use Rattle.event_log_spec.specs.Lines.{firstLine}
 use Rattle.event_log_spec.proofs.laws.LineFaults.{Readable, index-large, line-malformed, trace-long, code-unknown, endpoint-misplaced, no-fault}
 use Rattle.log_lines.proofs.laws.LineShape.{first-fits, Counted, counted, no-count, LineShape, no-activities, line-shape, shape-short, shape-formed, shape-long, shape-fits, faulty, sound}
@@ -22,10 +22,10 @@ count c = counted _ _ (sym (c .before .before .before .count-at .ensures) ∙ c 
 -- the activities begin after the count
 after-count : (c : tie.After-known-told)
     → let a = c .before .before .before .before .before .before .args in
-    firstLine (drop (a .from + 4) (a .text .now)) ≡ firstLine (drop 4 (drop (a .from) (a .text .now)))
+    firstLine (drop (a .from + countDigits) (a .text .now)) ≡ firstLine (drop countDigits (drop (a .from) (a .text .now)))
 after-count c =
     let a = c .before .before .before .before .before .before .args in
-    ap firstLine (sym (drop-drop 4 (a .from) (a .text .now)))
+    ap firstLine (sym (drop-drop countDigits (a .from) (a .text .now)))
 
 -- the line's shape, once its activities were read
 shape : (c : tie.After-known-told2)
@@ -68,7 +68,7 @@ returns-2 c =
 add-read-activities : tie.Need-add-read-activities
 add-read-activities c =
     let a = c .before .before .before .before .before .before .args in
-    omega (arith, count c .four, length-drop (a .from) (a .text .now))
+    omega (arith, count c .enough, length-drop (a .from) (a .text .now))
 
 returns-3 : tie.Need-returns-3
 returns-3 c =

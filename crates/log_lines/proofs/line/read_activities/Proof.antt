@@ -4,9 +4,11 @@
 use Prim.Native.Nat.{_-_}
 use mathlib.Core.Path.{_≡_, refl, sym, _∙_}
 use mathlib.Core.Bool.{false}
+use native.Mathlib.Nat.{add-sub-cancel-left}
 use native.Mathlib.Omega.{arith}
 use borrow.Author.Needs.{needs}
-use lib.ListN.{length, drop}
+use lib.ListN.{length, take, drop}
+use Rattle.hex_digits.specs.Digits.{numberIn}
 use Rattle.log_lines.specs.declared.Phase.the-variants.{Before}
 use Rattle.log_lines.proofs.laws.Scan.{scan, scan-first, scan-end, scan-feed, scan-short, scan-others, scan-number}
 use Rattle.log_lines.proofs.line.read_activities.Statement.{statement}
@@ -33,20 +35,26 @@ returns-2 c =
     let t = c .before .before .before in
     sym (scan-short _ _ _ _ _ (t .loop-test .taken) (c .if2 .taken) (c .before .if1 .left)) ∙ t .before .loop .inv ∙ scan-first _ _ _
 
+-- what the two digits at the index write
+read : (c : tie.After-read-hex Inv-loop μ-loop)
+    → let l = c .before .before .before .before .before .before in
+    c .read-hex .result ≡ numberIn (take 2 (drop (l .loop .at) (l .before .before .args .text .now)))
+read c = rw (add-sub-cancel-left (c .before .before .before .before .before .before .loop .at) 2) at (c .read-hex .ensures)
+
 returns-3 : tie.Need-returns-3 Inv-loop μ-loop
 returns-3 c =
     let p = c .before .before in
-    let d = p .before .before .before .before in
-    sym (scan-others _ _ _ _ _ (omega arith) (d .if1 .left) (sym (p .pair .ensures) ∙ c .enum-told .given .1))
+    let d = p .before .before .before in
+    sym (scan-others _ _ _ _ _ (omega arith) (d .if1 .left) (sym (read p) ∙ c .enum-told .given .1))
     ∙ d .before .before .before .loop .inv
     ∙ scan-first _ _ _
 
 loop-again : tie.Need-loop-again Inv-loop μ-loop
 loop-again c =
     let p = c .before .before .before .before in
-    let d = p .before .before .before .before in
+    let d = p .before .before .before in
     rw (c .advance .ensures)
-    (sym (scan-number _ _ _ _ _ _ (omega arith) (d .if1 .left) (sym (p .pair .ensures) ∙ c .before .before .digits .given .1))
+    (sym (scan-number _ _ _ _ _ _ (omega arith) (d .if1 .left) (sym (read p) ∙ c .before .before .digits .given .1))
     ∙ d .before .before .before .loop .inv)
 
 returns-4 : tie.Need-returns-4 Inv-loop μ-loop
@@ -64,10 +72,11 @@ read-activities-spec =
     returns
     (λ c. omega arith)  -- sub-if2
     returns-2
-    (λ c. omega arith)  -- shared-slice-read-pair
-    (λ c. omega arith)  -- add-pair
-    (λ c. omega arith)  -- shared-slice-read-pair-2
-    (λ c κs. search needs)  -- pair-requires
+    (λ c. omega arith)  -- add-read-hex
+    (λ c. omega arith)  -- sub-read-hex
+    (λ c. omega arith)  -- part-read-hex-start
+    (λ c. omega arith)  -- part-read-hex-end
+    (λ c κs. search needs)  -- read-hex-requires
     (λ c. search needs)  -- enum-known-digits
     (λ c. search needs)  -- enum-told
     returns-3

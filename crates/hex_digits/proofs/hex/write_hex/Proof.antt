@@ -1,10 +1,10 @@
--- `writer::hex::write_hex` meets its contract. The loop's invariant: the lowest digits stand from the index on, and the rest of the number is what is
+-- `hex_digits::hex::write_hex` meets its contract. The loop's invariant: the lowest digits stand from the index on, and the rest of the number is what is
 -- above them. The measure is the index.
 -- Assumes nothing.
 use native.Mathlib.Omega.{arith}
-use Rattle.writer.proofs.laws.DigitsFromBack.{WrittenFrom, none-written, one-written, all-written}
-use Rattle.writer.proofs.hex.write_hex.Statement.{statement}
-use Rattle.writer.proofs.hex.write_hex.Tie as tie
+use Rattle.hex_digits.proofs.laws.DigitsFromBack.{WrittenFrom, none-written, one-written, all-written}
+use Rattle.hex_digits.proofs.hex.write_hex.Statement.{statement}
+use Rattle.hex_digits.proofs.hex.write_hex.Tie as tie
 
 abbrev Inv-loop : tie.InvT-loop
 Inv-loop number text₀ rest₀ at₀ text rest at = WrittenFrom number text₀ text rest at

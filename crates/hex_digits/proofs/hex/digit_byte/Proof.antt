@@ -1,4 +1,4 @@
--- `writer::hex::digit_byte` meets its contract: from 10 on the quotient by 16 of the value and 6 is 1, and below it is 0.
+-- `hex_digits::hex::digit_byte` meets its contract: from 10 on the quotient by 16 of the value and 6 is 1, and below it is 0.
 -- Assumes nothing.
 use Prim.Native.Nat.{ℕ, _+_, _*_, _/_, _<_}
 use borrow.Author.Needs.{needs}
@@ -7,9 +7,9 @@ use mathlib.Core.Path.{_≡_}
 use native.Mathlib.Omega.{arith}
 use lib.Dec.{ltb}
 use Rattle.foundation.proofs.laws.Booleans.{by-test}
 use Rattle.hex_digits.specs.Digits.{digitByte}
-use Rattle.writer.proofs.hex.digit_byte.Statement.{statement}
-use Rattle.writer.proofs.hex.digit_byte.Tie as tie
+use Rattle.hex_digits.proofs.hex.digit_byte.Statement.{statement}
+use Rattle.hex_digits.proofs.hex.digit_byte.Tie as tie
 
 letters-further : (v : ℕ) → v < 16 → 48 + v + (v + 6) / 16 * 7 ≡ digitByte v
 unfolding digitByte
