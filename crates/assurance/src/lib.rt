@@ -1,6 +1,6 @@
 // Demand 3 of the written demands, on the calls themselves: any two runs on one log under the same settings, and both reductions.
 ghost use Rattle.listing.specs.Listing.{resourcesOf, GoesAsWritten};
-ghost use Rattle.assurance.specs.Demand3.{observed, Demand3};
+ghost use Rattle.assurance_spec.specs.Demand3.{observed, Demand3};
 use limits::Settings;
 use listing::Listing;
 use listing::list_places;

@@ -1,7 +1,7 @@
 -- `assurance::list_twice` meets its contract: both calls go as written, so demand 3 holds of what the caller sees of them.
 -- Assumes nothing.
 use borrow.Author.Needs.{needs}
-use Rattle.assurance.proofs.laws.Demand3Holds.{demand-3-seen}
+use Rattle.assurance_spec.proofs.laws.Demand3Holds.{demand-3-seen}
 use Rattle.assurance.proofs.list_twice.Statement.{statement}
 use Rattle.assurance.proofs.list_twice.Tie as tie
 

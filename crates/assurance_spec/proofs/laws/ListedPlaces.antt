@@ -22,7 +22,7 @@ use Rattle.discovery_spec.specs.TwoRuns.{fittingCandidates, AllFitting}
 use Rattle.reduction_spec.specs.Unions.{UnionOf, isUnion}
 use Rattle.reduction_spec.specs.Reduction.{redundant, reducedWords}
 use Rattle.reduction_spec.specs.Cover.{Listable}
-use Rattle.assurance.specs.Demand3.{ExactlyFitting, ExactlyIrredundant}
+use Rattle.assurance_spec.specs.Demand3.{ExactlyFitting, ExactlyIrredundant}
 use Rattle.reduction_spec.proofs.laws.UnionTests.{union-test}
 
 module _ (s : Settings) (text words : List ℕ) where

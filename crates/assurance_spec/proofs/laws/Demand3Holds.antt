@@ -15,9 +15,9 @@ use Rattle.reduction_spec.specs.Reduction.{reducedWords}
 use Rattle.reduction_spec.proofs.laws.Reducing.{reduced-kept, kept-taken}
 use Rattle.listing.specs.declared.Listing.{Listing}
 use Rattle.listing.specs.Listing.{Resources, GoesAsWritten}
-use Rattle.assurance.specs.Demand3.{Completed, ExactlyFitting, ReducedTo, AmpleCompletes, IfFirstCompletes, AnyTwoRuns, Demand3, observed, asWritten}
-use Rattle.assurance.proofs.laws.RunSeen.{roomOf, at-least, madeRun, listedWords, answered, listed-found, listing-complete, kept-reduced}
-use Rattle.assurance.proofs.laws.ListedPlaces.{exactly-fitting, fitting-listable, exactly-irredundant}
+use Rattle.assurance_spec.specs.Demand3.{Completed, ExactlyFitting, ReducedTo, AmpleCompletes, IfFirstCompletes, AnyTwoRuns, Demand3, observed, asWritten}
+use Rattle.assurance_spec.proofs.laws.RunSeen.{roomOf, at-least, madeRun, listedWords, answered, listed-found, listing-complete, kept-reduced}
+use Rattle.assurance_spec.proofs.laws.ListedPlaces.{exactly-fitting, fitting-listable, exactly-irredundant}
 
 module _ (s : Settings) (text : List ℕ) (passes : runRefusal s text ≡ none) where
   -- the reduction of the fitting candidates that a completed run found

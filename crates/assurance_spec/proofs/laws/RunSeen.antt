@@ -22,7 +22,7 @@ use Rattle.discovery_spec.specs.TwoRuns.{foundBy, AtLeast}
 use Rattle.reduction_spec.specs.Reduction.{reduced, reducedAfter}
 use Rattle.listing.specs.declared.Listing.the-variants.{Complete}
 use Rattle.listing.specs.Listing.{Resources, foundIn, listingOf, keptOf, searched, foundLeft, keptLeft, listing}
-use Rattle.assurance.specs.Demand3.{runOf, Completed, AtLeastAsLarge}
+use Rattle.assurance_spec.specs.Demand3.{runOf, Completed, AtLeastAsLarge}
 
 -- the capacity of a run that is given these buffers and this budget
 abbrev pub roomOf : Resources → Capacity

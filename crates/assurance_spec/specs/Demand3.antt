@@ -57,11 +57,11 @@ pub record ExactlyFitting (s : Settings) (text : List ℕ) (words : List ℕ) : 
   pub once : Ordered (λ (p q : Place). p ≡ q → ⊥) (map placeOf words)
   pub in-order : Ordered PlaceBefore (map placeOf words)
 
--- words are exactly the listed ones whose place is no union of two or more non-overlapping listed places, in that same order
-pub record ExactlyIrredundant (listed words : List ℕ) : Type 0 where
-  pub these : words ≡ reducedWords listed
-  pub exactly : (w : ℕ) → List·Memᴰ w words ↔ (List·Memᴰ w listed × (UnionOf listed (placeOf w) → ⊥))
-  pub in-order : Ordered PlaceBefore (map placeOf words)
+-- the kept words are exactly the listed ones whose place is no union of two or more non-overlapping listed places, in that same order
+pub record ExactlyIrredundant (listed kept : List ℕ) : Type 0 where
+  pub these : kept ≡ reducedWords listed
+  pub exactly : (w : ℕ) → List·Memᴰ w kept ↔ (List·Memᴰ w listed × (UnionOf listed (placeOf w) → ⊥))
+  pub in-order : Ordered PlaceBefore (map placeOf kept)
 
 -- the reduction of what a completed run found, where the second buffer is at least as long: it answers how many words it kept, and they are the
 -- first ones of that buffer
