@@ -1,9 +1,9 @@
 -- One name for all definitions of this layer and of those below it: a proof by computation says `unfolding opened`.
 -- Assumes nothing.
-use Rattle.replay.specs.Replaying.{argumentsChecked, afterEvent, afterDigit, codesIn, withCases}
+use Rattle.replay.specs.Replaying.{argumentsChecked, withCases}
 use Rattle.event_log.proofs.Opened.{opened as opened-event-log}
-use Rattle.replay_spec.proofs.Opened.{opened as opened-balances}
+use Rattle.token_replay.proofs.Opened.{opened as opened-token-replay}
 
 unfoldable pub opened : Unit {0}
-unfolding argumentsChecked afterEvent afterDigit codesIn withCases opened-event-log opened-balances
+unfolding argumentsChecked withCases opened-event-log opened-token-replay
 opened = tt

@@ -6,14 +6,14 @@ ghost use lib.ListN.{length};
 ghost use Rattle.event_log.specs.FrameIndex.{Indexed, framesBetween};
 ghost use Rattle.replay_spec.specs.Judgement.{caseCounts, casesOf, exceeds, verdictOf};
 ghost use Rattle.replay.specs.Replaying.{withCases};
-use crate::Tokens;
-use crate::trace::digit_sets;
-use crate::trace::replay_trace;
 use event_log::index::frame_cases;
 use event_log::index::frame_digits;
 use places::Place;
 use replay_spec::CaseCounts;
 use replay_spec::Verdict;
+use token_replay::Tokens;
+use token_replay::digit_sets;
+use token_replay::replay_trace;
 
 // Some cases where a test holds, and none where it does not, without a branch: how traces go cannot be foretold.
 fn cases_where(holds: bool, cases: u64) -> u64

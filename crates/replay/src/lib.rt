@@ -12,8 +12,6 @@ ghost use Rattle.replay_spec.specs.Judgement.{verdict};
 ghost use Rattle.replay.specs.Replaying.{argumentsChecked};
 use crate::judgement::count_cases;
 use crate::judgement::verdict_on;
-use crate::trace::digit_sets;
-use crate::trace::replay_trace;
 use event_log::check_text;
 use event_log::index::first_digits;
 use event_log::index::index_frames;
@@ -27,21 +25,10 @@ use places::place_under;
 use replay_spec::Judged;
 use replay_spec::Replayed;
 use replay_spec::Verdict;
+use token_replay::digit_sets;
+use token_replay::replay_trace;
 
 mod judgement; // judgement.rt: the case counts of a place and the verdict on it
-mod trace; // trace.rt: the tokens of one trace
-
-// The token balance after the events so far, and the least balance at any of them, 0 before the first: the low of document 01 at the end.
-pub struct Tokens {
-    pub balance: i16,
-    pub least: i16,
-}
-
-// The two sets of a place as sets of digits in place of codes.
-pub struct DigitSets {
-    pub inputs: u32,
-    pub outputs: u32,
-}
 
 // Checks the arguments of a call on a log and a place, in the order of checks. Whether the call's settings are in their ranges is handed in.
 fn check_arguments(activities: u8, in_range: bool, text: &[u8], place: Place) -> Checked

@@ -15,7 +15,8 @@ use Rattle.event_log_spec.specs.Frames.{Frame, FrameUnder, WrittenLog, countDig
 use Rattle.replay_spec.specs.declared.CaseCounts.{CaseCounts}
 use Rattle.replay_spec.specs.Balance.{underfeeds, overfeeds}
 use Rattle.replay_spec.specs.Judgement.{casesWhere, caseCounts, casesOf, verdictOf, verdict}
-use Rattle.replay.specs.Replaying.{afterTrace, withCases}
+use Rattle.token_replay.specs.Tokens.{afterTrace}
+use Rattle.replay.specs.Replaying.{withCases}
 use Rattle.replay_spec.proofs.laws.Counts.{casesWhere-sum, counts-add-up}
 
 -- no cases yet

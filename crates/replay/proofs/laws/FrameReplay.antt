@@ -18,8 +18,8 @@ use Rattle.event_log_spec.proofs.laws.PairLaws.{length-pairs, pairs-digits}
 use Rattle.event_log.specs.FrameIndex.{activityDigits, framesBetween}
 use Rattle.replay_spec.specs.Judgement.{caseCounts, casesOf}
 use Rattle.replay_spec.proofs.laws.Counts.{counts-add-up}
-use Rattle.replay.specs.Replaying.{codesIn}
-use Rattle.replay.proofs.laws.CodeDigits.{codes-written}
+use Rattle.token_replay.specs.Tokens.{codesIn}
+use Rattle.token_replay.proofs.laws.CodeDigits.{codes-written}
 use Rattle.replay.proofs.laws.FrameByFrame.{total-bounded}
 
 -- digits of which the codes are the frame's trace

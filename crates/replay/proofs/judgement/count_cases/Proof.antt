@@ -12,7 +12,7 @@ use Rattle.event_log.specs.FrameIndex.{frameAt, framesBetween}
 use Rattle.event_log.proofs.laws.IndexedFrames.{WordOf, frame-found}
 use Rattle.event_log.proofs.laws.FrameRanges.{index-length, frames-none, frames-more}
 use Rattle.replay_spec.specs.Judgement.{caseCounts}
-use Rattle.replay.specs.Replaying.{digitSets}
+use Rattle.token_replay.specs.Tokens.{digitSets}
 use Rattle.replay.proofs.laws.FrameByFrame.{counts-none, counts-more}
 use Rattle.replay.proofs.laws.FrameReplay.{frame-digits, cases-fit}
 use Rattle.replay.proofs.judgement.count_cases.Statement.{statement}

@@ -13,8 +13,8 @@ use Rattle.places.specs.declared.Place.{Place}
 use Rattle.places.specs.Sets.{has}
 use Rattle.hex_digits.specs.Digits.{isDigit, digitValue, digitByte}
 use Rattle.hex_digits.proofs.laws.DigitLaws.{digit-writes}
-use Rattle.replay.specs.declared.Tokens.{Tokens}
-use Rattle.replay.specs.Replaying.{byDigit, digitSets, afterEvent, afterDigit}
+use Rattle.token_replay.specs.declared.Tokens.{Tokens}
+use Rattle.token_replay.specs.Tokens.{byDigit, digitSets, afterEvent, afterDigit}
 
 -- the bits of a number from k on, and its last k
 has-from : (n k a : ℕ) → has (n / 2 ^ k) a ≡ has n (k + a)

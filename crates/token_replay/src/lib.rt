@@ -1,4 +1,4 @@
-// Replaying one trace: document 01, "Tokens in one trace", first paragraph.
+// Replaying one trace token by token: document 01, "Tokens in one trace", first paragraph.
 ghost use mathlib.Core.Path.{_≡_};
 ghost use Prim.Native.Nat.{_*_, _≤_};
 ghost use lib.Signed.{mag};
@@ -8,10 +8,20 @@ ghost use Rattle.foundation.specs.Lists.{all};
 ghost use Rattle.hex_digits.specs.Digits.{isDigit};
 ghost use Rattle.places.specs.declared.Place.{Place};
 ghost use Rattle.event_log_spec.specs.Frames.{mostEvents};
-ghost use Rattle.replay.specs.Replaying.{byDigit, digitSets, afterDigit, afterTrace, codesIn};
-use crate::DigitSets;
-use crate::Tokens;
+ghost use Rattle.token_replay.specs.Tokens.{byDigit, digitSets, afterDigit, afterTrace, codesIn};
 use places::Place;
+
+// The token balance after the events so far, and the least balance at any of them, 0 before the first: the low of document 01 at the end.
+pub struct Tokens {
+    pub balance: i16,
+    pub least: i16,
+}
+
+// The two sets of a place as sets of digits in place of codes.
+pub struct DigitSets {
+    pub inputs: u32,
+    pub outputs: u32,
+}
 
 // A set of codes as a set of digits, each by the last five bits of its byte: of 0 to 9 these are 16 to 25, and of A to F 1 to 6.
 fn by_digit(set: u16) -> u32

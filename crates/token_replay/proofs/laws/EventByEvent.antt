@@ -18,9 +18,9 @@ use Rattle.foundation.proofs.laws.Integers.{leZ-trans, leZ-antisymm, leZ-total,
 use Rattle.foundation.proofs.laws.Differences.{difference-add, difference-sub}
 use Rattle.places.specs.declared.Place.{Place}
 use Rattle.places.specs.Sets.{has}
-use Rattle.replay.specs.declared.Tokens.{Tokens}
+use Rattle.token_replay.specs.declared.Tokens.{Tokens}
 use Rattle.replay_spec.specs.Balance.{count, balanceAt, smaller, leastOf, leastBalance, lastBalance}
-use Rattle.replay.specs.Replaying.{afterEvent, afterTrace}
+use Rattle.token_replay.specs.Tokens.{afterEvent, afterTrace}
 
 -- before the first event
 abbrev pub noTokens : Tokens

@@ -1,9 +1,9 @@
--- `replay::trace::replay_event` meets its contract: its numbers fit 16 bits, so the bits read back are the definition's integers.
+-- `token_replay::replay_event` meets its contract: its numbers fit 16 bits, so the bits read back are the definition's integers.
 -- Assumes nothing.
 use borrow.Author.Needs.{needs}
-use Rattle.replay.proofs.laws.EventBits.{taken-fits, given-fits, least-stays, least-falls}
-use Rattle.replay.proofs.trace.replay_event.Statement.{statement}
-use Rattle.replay.proofs.trace.replay_event.Tie as tie
+use Rattle.token_replay.proofs.laws.EventBits.{taken-fits, given-fits, least-stays, least-falls}
+use Rattle.token_replay.proofs.replay_event.Statement.{statement}
+use Rattle.token_replay.proofs.replay_event.Tie as tie
 
 sub-taken : tie.Need-sub-taken
 sub-taken c =

@@ -1,4 +1,4 @@
--- `replay::trace::replay_trace` meets its contract. The loop's invariant: for every place whose sets these are, replaying what is left of the trace
+-- `token_replay::replay_trace` meets its contract. The loop's invariant: for every place whose sets these are, replaying what is left of the trace
 -- from here gives what replaying all of it gives from the start; and the balance is no larger than the place in the digits. One event more leaves
 -- it so, and a turn has two. The measure is what is left of the digits.
 -- Assumes nothing.
@@ -14,15 +14,15 @@ use Rattle.foundation.specs.Lists.{all, foldl}
 use Rattle.foundation.proofs.laws.Each.{all-at}
 use Rattle.places.specs.declared.Place.{Place}
 use Rattle.hex_digits.specs.Digits.{isDigit}
-use Rattle.replay.specs.declared.DigitSets.{DigitSets}
-use Rattle.replay.specs.declared.Tokens.{Tokens}
-use Rattle.replay.specs.Replaying.{afterDigit, afterEvent, afterTrace, codesIn, digitSets}
-use Rattle.replay.proofs.laws.ByDigit.{event-by-digit}
-use Rattle.replay.proofs.laws.EventBits.{mag-event}
-use Rattle.replay.proofs.laws.EventByEvent.{noTokens, event-by-event}
-use Rattle.replay.proofs.laws.CodeDigits.{codes-next, codes-end}
-use Rattle.replay.proofs.trace.replay_trace.Statement.{statement}
-use Rattle.replay.proofs.trace.replay_trace.Tie as tie
+use Rattle.token_replay.specs.declared.DigitSets.{DigitSets}
+use Rattle.token_replay.specs.declared.Tokens.{Tokens}
+use Rattle.token_replay.specs.Tokens.{afterDigit, afterEvent, afterTrace, codesIn, digitSets}
+use Rattle.token_replay.proofs.laws.ByDigit.{event-by-digit}
+use Rattle.token_replay.proofs.laws.EventBits.{mag-event}
+use Rattle.token_replay.proofs.laws.EventByEvent.{noTokens, event-by-event}
+use Rattle.token_replay.proofs.laws.CodeDigits.{codes-next, codes-end}
+use Rattle.token_replay.proofs.replay_trace.Statement.{statement}
+use Rattle.token_replay.proofs.replay_trace.Tie as tie
 
 -- the tokens after the events whose second digits stand before place `at`
 abbrev Reached : List ℕ → DigitSets → Tokens → ℕ → Type 0

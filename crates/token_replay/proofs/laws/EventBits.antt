@@ -14,9 +14,9 @@ use mir.ValLaws.{toZ-ofZ}
 use Rattle.foundation.proofs.laws.Differences.{mag-add, mag-sub}
 use Rattle.places.specs.Sets.{has}
 use Rattle.event_log_spec.specs.Frames.{mostEvents}
-use Rattle.replay.specs.declared.DigitSets.{DigitSets}
-use Rattle.replay.specs.declared.Tokens.{Tokens}
-use Rattle.replay.specs.Replaying.{afterDigit}
+use Rattle.token_replay.specs.declared.DigitSets.{DigitSets}
+use Rattle.token_replay.specs.declared.Tokens.{Tokens}
+use Rattle.token_replay.specs.Tokens.{afterDigit}
 
 -- a number of 16 bits, read back from its bits
 abbrev back : ℤ → ℤ

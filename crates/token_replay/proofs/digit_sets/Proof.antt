@@ -1,8 +1,8 @@
--- `replay::trace::digit_sets` meets its contract: each of its sets is the place's by digit.
+-- `token_replay::digit_sets` meets its contract: each of its sets is the place's by digit.
 -- Assumes nothing.
 use borrow.Author.Needs.{needs}
-use Rattle.replay.proofs.trace.digit_sets.Statement.{statement}
-use Rattle.replay.proofs.trace.digit_sets.Tie as tie
+use Rattle.token_replay.proofs.digit_sets.Statement.{statement}
+use Rattle.token_replay.proofs.digit_sets.Tie as tie
 
 returns : tie.Need-returns
 returns c = rw (c .before .by-digit .ensures, c .by-digit2 .ensures)

@@ -1,9 +1,9 @@
--- `replay::trace::by_digit` meets its contract: a set of 16 bits has six bits from bit 10 on, and no part of the sum exceeds 32 bits.
+-- `token_replay::by_digit` meets its contract: a set of 16 bits has six bits from bit 10 on, and no part of the sum exceeds 32 bits.
 -- Assumes nothing.
 use native.Mathlib.Omega.{arith}
 use borrow.Author.Needs.{needs}
-use Rattle.replay.proofs.trace.by_digit.Statement.{statement}
-use Rattle.replay.proofs.trace.by_digit.Tie as tie
+use Rattle.token_replay.proofs.by_digit.Statement.{statement}
+use Rattle.token_replay.proofs.by_digit.Tie as tie
 
 returns : tie.Need-returns
 returns c = omega arith

@@ -13,7 +13,7 @@ use Rattle.foundation.specs.Lists.{Each, each-nil, each-cons}
 use Rattle.foundation.proofs.laws.Booleans.{by-test}
 use Rattle.hex_digits.specs.Digits.{valueIn, digitValue, digitByte, writeHex}
 use Rattle.hex_digits.proofs.laws.DigitLaws.{digit-of}
-use Rattle.replay.specs.Replaying.{codesIn}
+use Rattle.token_replay.specs.Tokens.{codesIn}
 
 module _ (digits : List ℕ) where
   -- the codes whose second digits stand from place `at` on

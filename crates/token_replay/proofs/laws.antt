@@ -1,0 +1,4 @@
+pub mod ByDigit
+pub mod EventBits
+pub mod EventByEvent
+pub mod CodeDigits
