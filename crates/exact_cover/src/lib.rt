@@ -4,41 +4,18 @@ ghost use mathlib.Core.Path.{_≡_};
 ghost use mathlib.Core.Logic.{_↔_};
 ghost use mathlib.Core.Bool.{true};
 ghost use Prim.Native.Nat.{_<_};
-ghost use Rattle.reduction_spec.specs.Cover.{Listable, usable, Cover};
-use crate::activity::choose;
+ghost use Rattle.reduction_spec.specs.Cover.{Listable, Cover};
 use crate::parts::gather;
+use cover_choice::Choice;
+use cover_choice::choose;
+use cover_choice::is_usable;
 
-mod activity; // activity.rt: the activity to cover next
 mod parts; // parts.rt: the words that can be parts of what is left
-
-// What the words that can be the next part of a cover say of the activities that are left.
-pub struct Tally {
-    // the activities that at least one of the words has
-    pub once: u32,
-    // those that at least two have
-    pub twice: u32,
-    // those that at least three have
-    pub thrice: u32,
-}
-
-// Which activity is covered next.
-pub enum Choice {
-    Activity(u32),
-    // there is no cover: some activity is in no word that can be the next part, or these words are not balanced
-    Uncoverable,
-}
 
 // Whether the words that can be parts of what is left fitted a buffer, and how many they are.
 pub enum Gathered {
     All(usize),
     TooMany,
-}
-
-// Whether a word can be the next part of what is left of a whole.
-fn is_usable(word: u32, whole: u32, left: u32) -> bool
-    ensures { λ r. ⌜ r ≡ usable whole left word ⌝ }
-{
-    word & left == word && word != whole
 }
 
 // Whether some word that covers an activity with the fewest choices leaves what the words cover. Where there is a cover, one of these words is in it.

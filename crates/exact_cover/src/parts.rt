@@ -1,7 +1,7 @@
 // The words that can be parts of what is left of a whole.
 ghost use Rattle.exact_cover.specs.Gathering.{GatheredAs};
 use crate::Gathered;
-use crate::is_usable;
+use cover_choice::is_usable;
 
 // Writes the words that can be parts of what is left from the front of a buffer, as long as there is room.
 pub fn gather(words: &[u32], whole: u32, left: u32, parts: &mut [u32]) -> Gathered

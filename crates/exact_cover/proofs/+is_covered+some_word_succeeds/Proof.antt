@@ -14,7 +14,7 @@ use lib.Count.{ones}
 use lib.ListN.{length}
 use Rattle.reduction_spec.proofs.laws.Covers.{usable-le, usable-fewer}
 use Rattle.reduction_spec.proofs.laws.CoverParts.{parts-listable}
-use Rattle.exact_cover.specs.Choosing.{Chosen}
+use Rattle.cover_choice.specs.Choosing.{Chosen}
 use Rattle.exact_cover.proofs.laws.GatheredParts.{gathered-room, gathered-parts, found-in-parts}
 use Rattle.exact_cover.proofs.laws.Trying.{says-no, no-outputs-left, no-inputs-left, some-activity, Tried, tried-none, tried-more, tried-all, succeeds}
 use Rattle.exact_cover.proofs.is_covered.Reads as is-covered
@@ -23,8 +23,8 @@ use Rattle.exact_cover.proofs.+is_covered+some_word_succeeds.Lts-is_cov
 use Rattle.exact_cover.proofs.some_word_succeeds.Reads as succeeds-reads
 use Rattle.exact_cover.proofs.some_word_succeeds.Kinds as succeeds-kinds
 use Rattle.exact_cover.proofs.+is_covered+some_word_succeeds.Lts-some_word_succeeds as succeeds-lts
-use Rattle.exact_cover.proofs.activity.choose.Reads as choose-reads
-use Rattle.exact_cover.proofs.is_usable.Reads as is-usable-reads
+use Rattle.cover_choice.proofs.choose.Reads as choose-reads
+use Rattle.cover_choice.proofs.is_usable.Reads as is-usable-reads
 use Rattle.exact_cover.proofs.parts.gather.Reads as gather-reads
 use Rattle.exact_cover.proofs.+is_covered+some_word_succeeds.{statement}
 use Rattle.exact_cover.proofs.+is_covered+some_word_succeeds.Tie.{close}

@@ -19,7 +19,7 @@ use Rattle.foundation.proofs.laws.Members.{each-member, member-at}
 use Rattle.places.specs.Sets.{has}
 use Rattle.reduction_spec.specs.Cover.{Listable, usable, Cover, nothing-left, take-part}
 use Rattle.reduction_spec.proofs.laws.Covers.{word-halves, covering-part, both-halves}
-use Rattle.exact_cover.specs.Choosing.{Fewest}
+use Rattle.cover_choice.specs.Choosing.{Fewest}
 
 -- an answer that says no is right where there is no cover
 pub says-no : {words : List ℕ} {whole left : ℕ} → (Cover words whole left → ⊥) → (false ≡ true) ↔ Cover words whole left

@@ -1,0 +1,5 @@
+pub mod CountingWord
+pub mod CountingChoices
+pub mod Tallying
+pub mod Balancing
+pub mod Rarity

@@ -1,0 +1,44 @@
+-- Which activity the search for a cover takes up next: one that the fewest words can cover. So where some activity can be covered by no word, that is
+-- seen at once.
+-- Assumes nothing.
+use Prim.Native.Nat.{ℕ, _+_, _-_, _^_, _≤_, _<_, min}
+use mathlib.Core.Path.{_≡_}
+use mathlib.Core.List.{List}
+use lib.ListN.{length, getD}
+use Rattle.places.specs.Sets.{has}
+use Rattle.reduction_spec.specs.Cover.{Cover, choices}
+use Rattle.cover_choice.specs.declared.Tally.{Tally}
+use Rattle.cover_choice.specs.declared.Choice.{Choice}
+use Rattle.cover_choice.specs.declared.Choice.the-variants.{Activity, Uncoverable}
+
+-- counts of the 32 activities, each of which can grow by one
+pub record Growable (counts : List ℕ) : Type 0 where
+  pub wide : length counts ≡ 32
+  pub small : (a : ℕ) → a < 32 → getD counts a 0 + 1 < 2 ^ 64
+
+-- counts before and after the activities of a word were counted
+pub record Grown (word : ℕ) (before after : List ℕ) : Type 0 where
+  pub wide : length after ≡ 32
+  pub counted : (a : ℕ) → a < 32 → getD after a 0 ≡ getD before a 0 + has word a
+
+module _ (words : List ℕ) (whole left : ℕ) where
+  -- the activities that at least one, two and three words can cover
+  pub record Tallied (t : Tally) : Type 0 where
+    pub once : (a : ℕ) → has (t .once) a ≡ min 1 (choices words whole left a)
+    pub twice : (a : ℕ) → has (t .twice) a ≡ min 1 (choices words whole left a - 1)
+    pub thrice : (a : ℕ) → has (t .thrice) a ≡ min 1 (choices words whole left a - 2)
+
+  -- for each activity, how many words can cover it
+  abbrev pub Counts : List ℕ → Type 0
+  Counts counts = (a : ℕ) → a < 32 → getD counts a 0 ≡ choices words whole left a
+
+  -- an activity that is left, of which no other that is left can be covered by fewer words
+  pub record Fewest (a : ℕ) : Type 0 where
+    pub known : a < 32
+    pub uncovered : has left a ≡ 1
+    pub fewest : (b : ℕ) → has left b ≡ 1 → choices words whole left a ≤ choices words whole left b
+
+  -- a right choice is such an activity, where some word can cover it; that there is none means that there is no cover
+  unfoldable pub Chosen : Choice → Type 0
+  Chosen (Activity a) = Fewest a × (0 < choices words whole left a)
+  Chosen Uncoverable = Cover words whole left → ⊥
