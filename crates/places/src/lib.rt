@@ -4,6 +4,9 @@ ghost use Rattle.places.specs.Places.{below, placeUnder, word, placeOf};
 
 pub mod list; // list.rt: lists of places by their words
 
+// What the output activity 0 adds to the word of a place, which is I + 65,536 × O.
+pub const OUTPUT_UNIT: u32 = 65536;
+
 // A place (I, O): its input and its output activities, as sets in which code a stands for 2 to the power a.
 pub struct Place {
     pub inputs: u16,
@@ -34,7 +37,7 @@ pub fn place_under(activities: u8, place: Place) -> bool
 pub fn word_of(place: Place) -> u32
     ensures { λ r. ⌜ r ≡ word place ⌝ }
 {
-    place.inputs as u32 + 65536 * place.outputs as u32
+    place.inputs as u32 + OUTPUT_UNIT * place.outputs as u32
 }
 
 // The place that a list word stands for.
@@ -42,7 +45,7 @@ pub fn place_of(word: u32) -> Place
     ensures { λ r. ⌜ r ≡ placeOf word ⌝ }
 {
     Place {
-        inputs: (word % 65536) as u16,
-        outputs: (word / 65536) as u16,
+        inputs: (word % OUTPUT_UNIT) as u16,
+        outputs: (word / OUTPUT_UNIT) as u16,
     }
 }
