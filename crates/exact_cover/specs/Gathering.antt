@@ -1,17 +1,21 @@
--- The words that can be parts of what is left of a place, gathered in a buffer: all of them from its front, and then what it held beyond them. Where they are more
--- than it takes, what it holds is free: it is not read again.
+-- The words that can be parts of what is left of a place, gathered in a buffer: as many as there is
+-- room for, from its front, and then what it held beyond them.
 -- Assumes nothing.
-use Prim.Native.Nat.{ℕ, _<_}
-use mathlib.Core.Path.{_≡_}
+use Prim.Native.Nat.{ℕ}
+use mathlib.Core.Bool.{cond}
 use mathlib.Core.List.{List}
-use lib.ListN.{length}
+use lib.Dec.{leb}
+use lib.ListN.{length, take}
 use Rattle.foundation.specs.Buffers.{overwrite}
 use Rattle.reduction_spec.specs.Cover.{partsOf}
 use Rattle.exact_cover.specs.declared.Gathered.{Gathered}
 use Rattle.exact_cover.specs.declared.Gathered.the-variants.{All, TooMany}
 
--- what the buffer held before and after, and the answer
-unfoldable pub GatheredAs : List ℕ → ℕ → ℕ → List ℕ → List ℕ → Gathered → Type 0
-GatheredAs words whole left before after (All count) =
-    (count ≡ length (partsOf words whole left)) × (after ≡ overwrite (partsOf words whole left) before)
-GatheredAs words whole left before after TooMany = length before < length (partsOf words whole left)
+-- the answer for a buffer of that many words: how many there are, where it takes all
+unfoldable pub gathered : List ℕ → ℕ → ℕ → ℕ → Gathered
+gathered words whole left room =
+    cond (leb (length (partsOf words whole left)) room) (All (length (partsOf words whole left))) TooMany
+
+-- what the buffer holds on return
+unfoldable pub gatheredAfter : List ℕ → ℕ → ℕ → List ℕ → List ℕ
+gatheredAfter words whole left before = overwrite (take (length before) (partsOf words whole left)) before

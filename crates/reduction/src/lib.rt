@@ -13,13 +13,16 @@ use reduction_spec::Reduced;
 
 mod union; // union.rt: whether a place is a union of others
 
+// How many words that can be parts of a place are copied before it is searched.
+const ROOM: usize = 1024;
+
 // The words of a list whose places are not redundant, in their order, written from the front of a buffer that is at least as long.
 fn keep_irredundant(words: &[u32], kept: &mut [u32]) -> usize
     requires { ⌜ Listable (now words) × (length (now words) ≤ length (now kept)) ⌝ }
     ensures count { λ r. ⌜ r ≡ length (reducedWords (now (words .entry))) ⌝ }
     ensures list { λ _. ⌜ now (kept .exit) ≡ overwrite (reducedWords (now (words .entry))) (now (kept .entry)) ⌝ }
 {
-    let mut parts = [0u32; 1024];
+    let mut parts = [0u32; ROOM];
     let mut count = 0;
     let mut at = 0;
     while at < words.len() {

@@ -5,12 +5,14 @@ ghost use Rattle.limits.specs.Settings.{mostActivities};
 ghost use Rattle.places.specs.Places.{placeOf, placeUnder};
 ghost use Rattle.reduction_spec.specs.Cover.{Listable};
 ghost use Rattle.reduction_spec.specs.Reduction.{redundant};
-use exact_cover::is_covered;
+ghost use Rattle.exact_cover.specs.Gathering.{gatheredAfter};
+use exact_cover::has_cover;
 
 // Whether a place of a list is the union of two or more others that do not overlap. A buffer is lent to the search for the words that can be parts.
 pub fn is_redundant(words: &[u32], whole: u32, parts: &mut [u32]) -> bool
     requires { ⌜ Listable (now words) × (placeUnder mostActivities (placeOf whole) ≡ true) ⌝ }
-    ensures { λ r. ⌜ r ≡ redundant (now (words .entry)) whole ⌝ }
+    ensures answer { λ r. ⌜ r ≡ redundant (now (words .entry)) whole ⌝ }
+    ensures buffer { λ _. ⌜ now (parts .exit) ≡ gatheredAfter (now (words .entry)) whole whole (now (parts .entry)) ⌝ }
 {
-    is_covered(words, whole, whole, parts)
+    has_cover(words, whole, whole, parts)
 }

@@ -8,10 +8,10 @@ use mathlib.Core.Path.{_≡_, refl, sym, ap, ap₂, _∙_}
 use mathlib.Core.Bool.{Bool, true, false}
 use mathlib.Core.List.{List, [], _∷_, _++_, append-nil}
 use lib.ListN.{length, getD, take, drop, set, length-set, length-append, take-append-drop}
-use lib.Seq.{take-suc, take-all}
+use lib.Seq.{take-suc, take-all, take-append-seam, drop-cons}
 use Rattle.foundation.specs.Lists.{keep}
 use Rattle.foundation.specs.Buffers.{overwrite}
-use Rattle.foundation.proofs.laws.Buffers.{overwrite-more}
+use Rattle.foundation.proofs.laws.Buffers.{overwrite-more, overwrite-room}
 use Rattle.foundation.proofs.laws.Lists.{keep-append}
 
 -- those before an index stand in front of the buffer, and were counted
@@ -66,25 +66,37 @@ module _ {test : ℕ → Bool} {words before : List ℕ} where
                 ∙ sym (ap (λ (front : List ℕ). overwrite front before) more);
           }
 
-      -- one for which there is no room: those that pass are more than the buffer takes
-      pub no-room : length kept ≤ count → length before < length (keep test words)
+      -- one for which there is no room: those that pass are more than the buffer takes, and it holds as
+      -- many of them as it takes
+      pub no-room : length kept ≤ count
+          → (length before < length (keep test words)) × (kept ≡ overwrite (take (length before) (keep test words)) before)
       no-room full =
-          let all : keep test words ≡ keep test (take (at + 1) words) ++ keep test (drop (at + 1) words) = whole in
-          omega (
-            arith,
-            full,
-            k .room,
-            longer,
-            ap length all,
-            length-append (keep test (take (at + 1) words)) (keep test (drop (at + 1) words)),
+          let some : List ℕ = keep test (take at words) in
+          let later : List ℕ = keep test (drop at words) in
+          let all : keep test words ≡ some ++ later =
+          ap (keep test) (sym (take-append-drop at words)) ∙ keep-append test (take at words) (drop at words) in
+          let filled : length before ≡ length some =
+          omega (arith, k .room, k .counted, ap length (k .written), length-append some (drop (length some) before)) in (
+            omega (arith, filled, ap length all, length-append some later, more-later),
+            k .written
+                ∙ sym (
+                ap
+                (λ (front : List ℕ). overwrite front before)
+                (ap₂ take filled all ∙ take-append-seam some later)
+                ),
           )
         where
-          whole : keep test words ≡ keep test (take (at + 1) words) ++ keep test (drop (at + 1) words)
-          whole =
-              ap (keep test) (sym (take-append-drop (at + 1) words)) ∙ keep-append test (take (at + 1) words) (drop (at + 1) words)
+          -- this word is one of them
+          more-later : 1 ≤ length (keep test (drop at words))
+          more-later = rw (drop-cons words at 0 l, e) (omega arith)
 
   pub all-kept : {kept : List ℕ} {count at : ℕ} → KeptSo test words before kept count at → length words ≤ at
       → (count ≡ length (keep test words)) × (kept ≡ overwrite (keep test words) before)
   all-kept {at = at} k end =
       let all = take-all at words end in
       (rw all at (k .counted), rw all at (k .written))
+
+  -- then the buffer had room for them
+  pub all-fit : {kept : List ℕ} {count at : ℕ} → KeptSo test words before kept count at → length words ≤ at
+      → length (keep test words) ≤ length before
+  all-fit k end = overwrite-room before (keep test words) (sym (ap length (all-kept k end .1)) ∙ k .room)

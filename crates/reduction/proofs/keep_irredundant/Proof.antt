@@ -56,7 +56,7 @@ keep-irredundant-spec =
     (λ c.
     let r = c .before .before in
     let n = r .before .before .before in (
-      drop-next (n .before .loop .inv .0) (n .loop-test .taken) (ap not (sym (r .is-redundant .ensures) ∙ c .if1 .taken)),
+      drop-next (n .before .loop .inv .0) (n .loop-test .taken) (ap not (sym (r .is-redundant .ensures .0) ∙ c .if1 .taken)),
       r .is-redundant .kept .1 .1 .0 ∙ n .before .loop .inv .1,
     ))  -- loop-again
     (λ c. omega (arith, one-more-fits c))  -- mul-kept
@@ -66,7 +66,7 @@ keep-irredundant-spec =
     (λ c.
     let r = c .before .before in
     let n = r .before .before .before in (
-      keep-next (n .before .loop .inv .0) (n .loop-test .taken) (ap not (sym (r .is-redundant .ensures) ∙ c .if1 .left)) (one-more-fits c),
+      keep-next (n .before .loop .inv .0) (n .loop-test .taken) (ap not (sym (r .is-redundant .ensures .0) ∙ c .if1 .left)) (one-more-fits c),
       r .is-redundant .kept .1 .1 .0 ∙ n .before .loop .inv .1,
     ))  -- loop-again-2
     (λ c. c .before .loop .inv .0 .room)  -- same-length
