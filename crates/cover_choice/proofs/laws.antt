@@ -1,3 +1,4 @@
+pub mod HighestBit
 pub mod CountingWord
 pub mod CountingChoices
 pub mod Tallying

@@ -3,13 +3,20 @@
 -- Assumes nothing.
 use Prim.Native.Nat.{ℕ, _+_, _-_, _^_, _≤_, _<_, min}
 use mathlib.Core.Path.{_≡_}
+use mathlib.Core.Bool.{true}
 use mathlib.Core.List.{List}
 use lib.ListN.{length, getD}
 use Rattle.places.specs.Sets.{has}
-use Rattle.reduction_spec.specs.Cover.{Cover, choices}
+use Rattle.reduction_spec.specs.Cover.{Cover, choices, balanced}
 use Rattle.cover_choice.specs.declared.Tally.{Tally}
 use Rattle.cover_choice.specs.declared.Choice.{Choice}
 use Rattle.cover_choice.specs.declared.Choice.the-variants.{Activity, Uncoverable}
+
+-- the highest of some activities
+pub record Highest (activities a : ℕ) : Type 0 where
+  pub known : a < 32
+  pub there : has activities a ≡ 1
+  pub none-above : (b : ℕ) → a < b → has activities b ≡ 0
 
 -- counts of the 32 activities, each of which can grow by one
 pub record Growable (counts : List ℕ) : Type 0 where
@@ -29,8 +36,9 @@ module _ (words : List ℕ) (whole left : ℕ) where
     pub thrice : (a : ℕ) → has (t .thrice) a ≡ min 1 (choices words whole left a - 2)
 
   -- for each activity, how many words can cover it
-  abbrev pub Counts : List ℕ → Type 0
-  Counts counts = (a : ℕ) → a < 32 → getD counts a 0 ≡ choices words whole left a
+  pub record Counts (counts : List ℕ) : Type 0 where
+    pub wide : length counts ≡ 32
+    pub counted : (a : ℕ) → a < 32 → getD counts a 0 ≡ choices words whole left a
 
   -- an activity that is left, of which no other that is left can be covered by fewer words
   pub record Fewest (a : ℕ) : Type 0 where
@@ -38,7 +46,14 @@ module _ (words : List ℕ) (whole left : ℕ) where
     pub uncovered : has left a ≡ 1
     pub fewest : (b : ℕ) → has left b ≡ 1 → choices words whole left a ≤ choices words whole left b
 
-  -- a right choice is such an activity, where some word can cover it; that there is none means that there is no cover
+  -- such an activity that some word can cover; and where every activity has three choices or more,
+  -- the words are balanced
+  pub record Promising (a : ℕ) : Type 0 where
+    pub fewest : Fewest a
+    pub coverable : 0 < choices words whole left a
+    pub in-balance : 3 ≤ choices words whole left a → balanced words whole left ≡ true
+
+  -- a right choice is such an activity; that there is none means that there is no cover
   unfoldable pub Chosen : Choice → Type 0
-  Chosen (Activity a) = Fewest a × (0 < choices words whole left a)
+  Chosen (Activity a) = Promising a
   Chosen Uncoverable = Cover words whole left → ⊥

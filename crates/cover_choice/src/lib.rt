@@ -1,9 +1,9 @@
 // Which activity the search for a cover takes up next: one that the fewest words can cover.
 ghost use mathlib.Core.Path.{_≡_};
 ghost use Prim.Native.Nat.{_≤_, _<_};
-ghost use Rattle.places.specs.Sets.{has};
 ghost use Rattle.reduction_spec.specs.Cover.{usable, inputCount, outputCount, balanced};
-ghost use Rattle.cover_choice.specs.Choosing.{Tallied, Growable, Grown, Counts, Fewest, Chosen};
+ghost use Rattle.cover_choice.specs.Choosing.{Highest, Tallied, Growable, Grown, Counts, Fewest, Chosen};
+use places::OUTPUT_UNIT;
 
 // What the words that can be the next part of a cover say of the activities that are left.
 pub struct Tally {
@@ -58,14 +58,14 @@ fn tally_of(words: &[u32], whole: u32, left: u32) -> Tally
 fn inputs_of(word: u32) -> u32
     ensures { λ r. ⌜ (r ≡ inputCount word) × (r ≤ 16) ⌝ }
 {
-    u32::count_ones(word % 65536)
+    u32::count_ones(word % OUTPUT_UNIT)
 }
 
 // How many outputs a word has.
 fn outputs_of(word: u32) -> u32
     ensures { λ r. ⌜ (r ≡ outputCount word) × (r ≤ 16) ⌝ }
 {
-    u32::count_ones(word / 65536)
+    u32::count_ones(word / OUTPUT_UNIT)
 }
 
 // Whether the words that can be the next part are not all poorer in inputs for their outputs than what is left, and not all richer. Words that are all
@@ -98,7 +98,7 @@ fn is_balanced(words: &[u32], whole: u32, left: u32) -> bool
 // The highest of some activities.
 fn highest_of(activities: u32) -> u32
     requires { ⌜ 0 < activities ⌝ }
-    ensures { λ r. ⌜ (r < 32) × (has activities r ≡ 1) ⌝ }
+    ensures { λ r. ⌜ Highest activities r ⌝ }
 {
     31 - u32::leading_zeros(activities)
 }

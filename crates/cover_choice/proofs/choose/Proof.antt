@@ -5,11 +5,11 @@ use Prim.Native.Nat.{ℕ, _-_, _≤_, _<_}
 use native.Mathlib.Omega.{arith}
 use mathlib.Core.Path.{_≡_, sym, _∙_}
 use borrow.Author.Needs.{needs}
-use borrow.Author.Tests.{not-true}
+use borrow.Author.Tests.{not-true, not-false}
 use Rattle.cover_choice.specs.Choosing.{Chosen}
 use Rattle.reduction_spec.proofs.laws.Parts.{part-le}
 use Rattle.reduction_spec.proofs.laws.Balance.{unbalanced}
-use Rattle.cover_choice.proofs.laws.Rarity.{twice-part, thrice-part, no-cover, single, double, coverable}
+use Rattle.cover_choice.proofs.laws.Rarity.{twice-part, thrice-part, no-cover, single, double, some-word}
 use Rattle.cover_choice.proofs.choose.Statement.{statement}
 use Rattle.cover_choice.proofs.choose.Tie as tie
 
@@ -33,7 +33,7 @@ returns-2 : tie.Need-returns-2
 unfolding Chosen
 returns-2 c =
     let one = c .before .before .before .before in
-    single (one .before .before .tally-of .ensures) (one .if1 .left) (c .highest-of .result) (c .highest-of .ensures .0) (c .highest-of .ensures .1)
+    single (one .before .before .tally-of .ensures) (one .if1 .left) (c .highest-of .result) (c .highest-of .ensures .known) (c .highest-of .ensures .there)
 
 sub-highest-of-2 : tie.Need-sub-highest-of-2
 sub-highest-of-2 c = part-le _ _ (thrice-part (c .before .before .before .before .before .before .before .tally-of .ensures))
@@ -52,9 +52,9 @@ returns-3 c =
     (one .before .before .tally-of .ensures)
     (one .if1 .left)
     (c .highest-of2 .result)
-    (c .highest-of2 .ensures .0)
+    (c .highest-of2 .ensures .known)
     (two .if2 .left)
-    (c .highest-of2 .ensures .1)
+    (c .highest-of2 .ensures .there)
 
 returns-4 : tie.Need-returns-4
 unfolding Chosen
@@ -67,7 +67,11 @@ unfolding Chosen
 returns-5 c =
     let one = c .before .before .before .before .before .before .before in
     let found = c .rarest-of .ensures in
-    (found, coverable (one .before .before .tally-of .ensures) (one .if1 .left) found)
+    record {
+      fewest = found;
+      coverable = some-word (one .before .before .tally-of .ensures) (one .if1 .left) found;
+      in-balance = λ many. sym (c .before .before .is-balanced .ensures) ∙ not-false _ (c .before .if4 .left);
+    }
 
 pub choose-spec : {M : Type 1} → statement M
 choose-spec =

@@ -15,26 +15,26 @@ abbrev μ-loop : tie.MeasureT-loop
 loop-holds : tie.Need-loop-holds Inv-loop μ-loop
 loop-holds c = none-counted (c .pre .wide)
 
+loop-again : tie.Need-loop-again Inv-loop μ-loop
+loop-again c =
+    let h = c .before .highest-of .ensures in
+    rw (held-bit _ (h .known)) (count-bit (c .before .before .before .loop .inv) _ (h .known) (h .there))
+
 add-counts : tie.Need-add-counts Inv-loop μ-loop
 add-counts c =
     let l = c .before .before .before in
     let h = c .before .highest-of .ensures in
-    record { fits = has-room (l .loop .inv) _ (h .0) (h .1) (l .before .pre) }
+    record { fits = has-room (l .loop .inv) _ (h .known) (h .there) (l .before .pre) }
 
 sub-rest : tie.Need-sub-rest Inv-loop μ-loop
 sub-rest c =
     let h = c .before .highest-of .ensures in
-    rw (held-bit _ (h .0)) (bit-le _ _ (h .1))
+    rw (held-bit _ (h .known)) (bit-le _ _ (h .there))
 
 loop-less : tie.Need-loop-less Inv-loop μ-loop
 loop-less c =
     let h = c .before .highest-of .ensures in
-    rw (held-bit _ (h .0)) (bit-less _ _ (h .1))
-
-loop-again : tie.Need-loop-again Inv-loop μ-loop
-loop-again c =
-    let h = c .before .highest-of .ensures in
-    rw (held-bit _ (h .0)) (count-bit (c .before .before .before .loop .inv) _ (h .0) (h .1))
+    rw (held-bit _ (h .known)) (bit-less _ _ (h .there))
 
 returns : tie.Need-returns Inv-loop μ-loop
 returns c = word-counted (c .before .loop .inv) (c .loop-test .left)
@@ -47,12 +47,12 @@ count-word-spec =
     μ-loop
     loop-holds
     (λ c κs. omega arith)  -- highest-of-requires
-    (λ c. omega (arith, c .highest-of .ensures .0))  -- cast-counts
-    (λ c. omega (arith, c .highest-of .ensures .0))  -- mul-counts
-    (λ c. c .highest-of .ensures .0)  -- element-copy-out-counts
+    (λ c. omega (arith, c .highest-of .ensures .known))  -- cast-counts
+    (λ c. omega (arith, c .highest-of .ensures .known))  -- mul-counts
+    (λ c. c .highest-of .ensures .known)  -- element-copy-out-counts
     add-counts
-    (λ c. c .before .highest-of .ensures .0)  -- element-write-counts
-    (λ c. c .before .highest-of .ensures .0)  -- shl-rest
+    (λ c. c .before .highest-of .ensures .known)  -- element-write-counts
+    (λ c. c .before .highest-of .ensures .known)  -- shl-rest
     sub-rest
     loop-less
     loop-again

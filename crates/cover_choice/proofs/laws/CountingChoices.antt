@@ -43,7 +43,6 @@ module _ (whole left : ℕ) (words : List ℕ) (w : ℕ) where
 -- those before an index were counted
 pub record Counted (words : List ℕ) (whole left : ℕ) (counts : List ℕ) (at : ℕ) : Type 0 where
   pub reached : at ≤ length words
-  pub wide : length counts ≡ 32
   pub few : (a : ℕ) → a < 32 → getD counts a 0 ≤ at
   pub counted : Counts (take at words) whole left counts
 
@@ -53,9 +52,8 @@ module _ {words : List ℕ} {whole left : ℕ} where
   none-counted =
       record {
         reached = omega arith;
-        wide = refl;
         few = λ a l. omega (arith, getD-replicate {A = ℕ} 32 a 0 0 l);
-        counted = λ a l. getD-replicate {A = ℕ} 32 a 0 0 l;
+        counted = record { wide = refl; counted = λ a l. getD-replicate {A = ℕ} 32 a 0 0 l };
       }
 
   module _ {counts : List ℕ} {at : ℕ} (c : Counted words whole left counts at) (l : at < length words) where
@@ -64,16 +62,20 @@ module _ {words : List ℕ} {whole left : ℕ} where
 
     -- a count is at most the number of words so far, so it can grow
     pub growable : length words < 2 ^ 64 → Growable counts
-    growable fits = record { wide = c .wide; small = λ a small. omega (arith, l, c .few a small) }
+    growable fits = record { wide = c .counted .wide; small = λ a small. omega (arith, l, c .few a small) }
 
     -- a word that cannot be the next part, and one that can
     pub not-usable : usable whole left (getD words at 0) ≡ false → Counted words whole left counts (at + 1)
     not-usable e =
         record {
           reached = omega (arith, l);
-          wide = c .wide;
           few = λ a small. omega (arith, c .few a small);
-          counted = λ a small. omega (arith, next a, choices-same whole left (take at words) (getD words at 0) e a, c .counted a small);
+          counted =
+              record {
+                wide = c .counted .wide;
+                counted = λ a small.
+                    omega (arith, next a, choices-same whole left (take at words) (getD words at 0) e a, c .counted .counted a small);
+              };
         }
 
     pub counts-word : {after : List ℕ} → usable whole left (getD words at 0) ≡ true
@@ -81,9 +83,19 @@ module _ {words : List ℕ} {whole left : ℕ} where
     counts-word e grown =
         record {
           reached = omega (arith, l);
-          wide = grown .wide;
           few = λ a small. omega (arith, c .few a small, grown .counted a small);
-          counted = λ a small. omega (arith, next a, choices-one whole left (take at words) (getD words at 0) e a, c .counted a small, grown .counted a small);
+          counted =
+              record {
+                wide = grown .wide;
+                counted = λ a small.
+                    omega (
+                      arith,
+                      next a,
+                      choices-one whole left (take at words) (getD words at 0) e a,
+                      c .counted .counted a small,
+                      grown .counted a small,
+                    );
+              };
         }
 
   pub all-counted : {counts : List ℕ} {at : ℕ} → Counted words whole left counts at → length words ≤ at → Counts words whole left counts

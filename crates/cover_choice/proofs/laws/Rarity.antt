@@ -5,14 +5,13 @@
 -- Assumes nothing.
 use Prim.Native.Nat.{ℕ, _+_, _-_, _^_, _≤_, _<_, min}
 use native.Mathlib.Omega.{arith}
-use native.Mathlib.Nat.{le-antisymm, div-eq-of-lt, lt-of-lt-of-le}
+use native.Mathlib.Nat.{le-antisymm}
 use mathlib.Core.Path.{_≡_, refl, ap}
 use mathlib.Core.Bool.{false, _&&_}
 use mathlib.Core.List.{List}
 use borrow.Author.Tests.{eqb-true, eqb-false, ne-eqb, ltb-true, ltb-false}
 use lib.Dec.{eqb, ltb}
 use lib.ListN.{length}
-use lib.Pow.{pow-mono}
 use Rattle.foundation.proofs.laws.Booleans.{by-test}
 use Rattle.foundation.proofs.laws.Each.{keep-none, each-always}
 use Rattle.places.specs.Sets.{has, member}
@@ -20,7 +19,8 @@ use Rattle.reduction_spec.specs.Cover.{usable, Cover, choices}
 use Rattle.reduction_spec.proofs.laws.Parts.{Part, part-le, part-has, bits-part}
 use Rattle.reduction_spec.proofs.laws.Covers.{usable-parts, uncoverable}
 use Rattle.cover_choice.specs.declared.Tally.{Tally}
-use Rattle.cover_choice.specs.Choosing.{Tallied, Fewest}
+use Rattle.cover_choice.specs.Choosing.{Tallied, Fewest, Promising}
+use Rattle.cover_choice.proofs.laws.HighestBit.{no-bit}
 
 module _ (words : List ℕ) (whole left : ℕ) where
   -- no word can cover an activity that is not left
@@ -79,32 +79,38 @@ module _ {words : List ℕ} {whole left : ℕ} where
 
     module _ (one : t .once ≡ left) (a : ℕ) (small : a < 32) where
       -- an activity that only one word can cover
-      pub single : has (left - t .twice) a ≡ 1 → Fewest words whole left a × (0 < choices words whole left a)
+      pub single : has (left - t .twice) a ≡ 1 → Promising words whole left a
       single e =
-          let bit = part-has (t .twice) left a twice-part in (
-            record {
-              known = small;
-              uncovered = omega (arith, bit);
-              fewest = λ b l. omega (arith, bit, h .twice a, in-one one b l);
-            },
-            in-one one a (omega (arith, bit)),
-          )
+          let bit = part-has (t .twice) left a twice-part in
+          record {
+            fewest =
+                record {
+                  known = small;
+                  uncovered = omega (arith, bit);
+                  fewest = λ b l. omega (arith, bit, h .twice a, in-one one b l);
+                };
+            coverable = in-one one a (omega (arith, bit));
+            in-balance = λ many. absurd (omega (arith, bit, h .twice a));
+          }
 
       -- where there is none, one that only two can cover
-      pub double : t .twice ≡ left → has (left - t .thrice) a ≡ 1 → Fewest words whole left a × (0 < choices words whole left a)
+      pub double : t .twice ≡ left → has (left - t .thrice) a ≡ 1 → Promising words whole left a
       double two e =
-          let bit = part-has (t .thrice) left a thrice-part in (
-            record {
-              known = small;
-              uncovered = omega (arith, bit);
-              fewest = λ b l. omega (arith, bit, h .thrice a, in-two two b l);
-            },
-            in-one one a (omega (arith, bit)),
-          )
+          let bit = part-has (t .thrice) left a thrice-part in
+          record {
+            fewest =
+                record {
+                  known = small;
+                  uncovered = omega (arith, bit);
+                  fewest = λ b l. omega (arith, bit, h .thrice a, in-two two b l);
+                };
+            coverable = in-one one a (omega (arith, bit));
+            in-balance = λ many. absurd (omega (arith, bit, h .thrice a));
+          }
 
     -- else some word can cover each
-    pub coverable : t .once ≡ left → {a : ℕ} → Fewest words whole left a → 0 < choices words whole left a
-    coverable one {a = a} f = in-one one a (f .uncovered)
+    pub some-word : t .once ≡ left → {a : ℕ} → Fewest words whole left a → 0 < choices words whole left a
+    some-word one {a = a} f = in-one one a (f .uncovered)
 
 -- the activity with the fewest choices, found one activity after the other
 pub record Sought (words : List ℕ) (whole left rarest fewest next : ℕ) : Type 0 where
@@ -117,10 +123,6 @@ pub record Sought (words : List ℕ) (whole left rarest fewest next : ℕ) : Typ
 up-to : {X : Type 0} (b next : ℕ) → b < next + 1 → (b < next → X) → (b ≡ next → X) → X
 up-to b next l before here =
     by-test (ltb b next) (λ e. before (ltb-true b next e)) (λ e. here (omega (arith, ltb-false b next e)))
-
--- a number of 32 bits has no bit above
-no-bit : (left b : ℕ) → left < 2 ^ 32 → 32 ≤ b → has left b ≡ 0
-no-bit left b small wide = omega (arith, div-eq-of-lt (lt-of-lt-of-le small (pow-mono {i = 32} {j = b} wide)))
 
 module _ {words : List ℕ} {whole left : ℕ} where
   pub none-sought : (a : ℕ) → a < 32 → has left a ≡ 1 → (count : ℕ) → count ≡ choices words whole left a → Sought words whole left a count 0
@@ -168,5 +170,5 @@ module _ {words : List ℕ} {whole left : ℕ} where
               by-test
               (ltb b next)
               (λ e. omega (arith, s .counted, s .so-far b (ltb-true b next e) h))
-              (λ e. absurd (omega (arith, no-bit left b small (omega (arith, ltb-false b next e)))));
+              (λ e. absurd (omega (arith, no-bit left 32 b small (omega (arith, ltb-false b next e)))));
         }

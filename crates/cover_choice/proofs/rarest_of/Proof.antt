@@ -22,12 +22,12 @@ rarest-of-spec =
     μ-loop
     (λ c κs. search needs)  -- count-choices-requires
     (λ c κs. c .before .before .pre)  -- highest-of-requires
-    (λ c. omega (arith, c .highest-of .ensures .0))  -- cast-fewest
-    (λ c. omega (arith, c .highest-of .ensures .0))  -- mul-fewest
-    (λ c. c .highest-of .ensures .0)  -- array-read-fewest
+    (λ c. omega (arith, c .highest-of .ensures .known))  -- cast-fewest
+    (λ c. omega (arith, c .highest-of .ensures .known))  -- mul-fewest
+    (λ c. c .highest-of .ensures .known)  -- array-read-fewest
     (λ c.
     let first = c .highest-of in
-    none-sought (first .result) (first .ensures .0) (first .ensures .1) _ (c .before .count-choices .ensures _ (first .ensures .0)))  -- loop-holds
+    none-sought (first .result) (first .ensures .known) (first .ensures .there) _ (c .before .count-choices .ensures .counted _ (first .ensures .known)))  -- loop-holds
     (λ c. omega arith)  -- add-next
     (λ c. c .loop-test .taken)  -- shr-if1
     (λ c. omega arith)  -- loop-less
@@ -39,9 +39,9 @@ rarest-of-spec =
     (λ c.
     let l = c .before .before .before in
     let small = c .before .before .loop-test .taken in
-    one-fewer (l .loop .inv) small (omega (arith, c .before .if1 .left)) _ (l .before .before .count-choices .ensures _ small) (c .if2 .taken))  -- loop-again-2
+    one-fewer (l .loop .inv) small (omega (arith, c .before .if1 .left)) _ (l .before .before .count-choices .ensures .counted _ small) (c .if2 .taken))  -- loop-again-2
     (λ c. omega arith)  -- loop-less-3
     (λ c.
     let l = c .before .before .before in
-    no-fewer (l .loop .inv) _ (l .before .before .count-choices .ensures _ (c .before .before .loop-test .taken)) (c .if2 .left))  -- loop-again-3
+    no-fewer (l .loop .inv) _ (l .before .before .count-choices .ensures .counted _ (c .before .before .loop-test .taken)) (c .if2 .left))  -- loop-again-3
     (λ c. all-sought (c .before .loop .inv) (c .before .before .before .before .before .fits .left .fits) (c .loop-test .left)))

@@ -66,7 +66,7 @@ unfolding Chosen
     (λ c. search needs)  -- enum-known-chosen
     (λ c. search needs)  -- enum-told
     (λ c. says-no (subst (Chosen _ _ _) (c .enum-told .given .1) (c .before .before .choose .ensures)))  -- returns
-    (λ c. (tried-none (subst (Chosen _ _ _) (c .before .chosen .given .1) (c .before .before .before .choose .ensures) .0), refl))  -- loop-holds
+    (λ c. (tried-none (subst (Chosen _ _ _) (c .before .chosen .given .1) (c .before .before .before .choose .ensures) .fewest), refl))  -- loop-holds
     (λ c. omega arith)  -- mul-word
     (λ c. omega arith)  -- shared-slice-read-word
     (λ c. omega arith)  -- add-at
