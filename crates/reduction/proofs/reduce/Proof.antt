@@ -19,16 +19,16 @@ listable-checked : (words : List ℕ) → wordsFault 0 words ≡ none → Listab
 unfolding Listable
 listable-checked words e = all-valid 0 words e
 
--- a list that got past the first check has no fault
-no-fault : (c : tie.Else1) → wordsFault 0 (c .before .before .before .before .args .words .now) ≡ none
-no-fault c = c .before .first-invalid .ensures .1 ∙ rw (le-ltb (c .before .first-invalid .result) _ (c .if1 .left)) refl
-
 returns : tie.Need-returns
 returns c =
     let a = c .before .before .before .before .args in
     let first = c .before .first-invalid in
     let refused = invalid-refused (a .words .now) (a .kept .now) (first .result) (first .ensures .1 ∙ rw (lt-ltb (first .result) _ (c .if1 .taken)) refl) in
     (sym (refused .answers), (sym (refused .leaves), reduced-numbered _ _ (sym (refused .answers))))
+
+-- a list that got past the first check has no fault
+no-fault : (c : tie.Else1) → wordsFault 0 (c .before .before .before .before .args .words .now) ≡ none
+no-fault c = c .before .first-invalid .ensures .1 ∙ rw (le-ltb (c .before .first-invalid .result) _ (c .if1 .left)) refl
 
 returns-2 : tie.Need-returns-2
 returns-2 c =
