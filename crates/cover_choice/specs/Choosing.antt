@@ -12,21 +12,25 @@ use Rattle.cover_choice.specs.declared.Tally.{Tally}
 use Rattle.cover_choice.specs.declared.Choice.{Choice}
 use Rattle.cover_choice.specs.declared.Choice.the-variants.{Activity, Uncoverable}
 
+-- how many activities a word can have: 16 inputs and 16 outputs
+abbrev pub wordActivities : ℕ
+wordActivities = 32
+
 -- the highest of some activities
 pub record Highest (activities a : ℕ) : Type 0 where
-  pub known : a < 32
+  pub known : a < wordActivities
   pub there : has activities a ≡ 1
   pub none-above : (b : ℕ) → a < b → has activities b ≡ 0
 
--- counts of the 32 activities, each of which can grow by one
+-- counts of the activities of a word, each of which can grow by one
 pub record Growable (counts : List ℕ) : Type 0 where
-  pub wide : length counts ≡ 32
-  pub small : (a : ℕ) → a < 32 → getD counts a 0 + 1 < 2 ^ 64
+  pub wide : length counts ≡ wordActivities
+  pub small : (a : ℕ) → a < wordActivities → getD counts a 0 + 1 < 2 ^ 64
 
 -- counts before and after the activities of a word were counted
 pub record Grown (word : ℕ) (before after : List ℕ) : Type 0 where
-  pub wide : length after ≡ 32
-  pub counted : (a : ℕ) → a < 32 → getD after a 0 ≡ getD before a 0 + has word a
+  pub wide : length after ≡ wordActivities
+  pub counted : (a : ℕ) → a < wordActivities → getD after a 0 ≡ getD before a 0 + has word a
 
 module _ (words : List ℕ) (whole left : ℕ) where
   -- the activities that at least one, two and three words can cover
@@ -37,12 +41,12 @@ module _ (words : List ℕ) (whole left : ℕ) where
 
   -- for each activity, how many words can cover it
   pub record Counts (counts : List ℕ) : Type 0 where
-    pub wide : length counts ≡ 32
-    pub counted : (a : ℕ) → a < 32 → getD counts a 0 ≡ choices words whole left a
+    pub wide : length counts ≡ wordActivities
+    pub counted : (a : ℕ) → a < wordActivities → getD counts a 0 ≡ choices words whole left a
 
   -- an activity that is left, of which no other that is left can be covered by fewer words
   pub record Fewest (a : ℕ) : Type 0 where
-    pub known : a < 32
+    pub known : a < wordActivities
     pub uncovered : has left a ≡ 1
     pub fewest : (b : ℕ) → has left b ≡ 1 → choices words whole left a ≤ choices words whole left b
 

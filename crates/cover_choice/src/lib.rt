@@ -5,6 +5,9 @@ ghost use Rattle.reduction_spec.specs.Cover.{usable, inputCount, outputCount, b
 ghost use Rattle.cover_choice.specs.Choosing.{Highest, Tallied, Growable, Grown, Counts, Fewest, Chosen};
 use places::OUTPUT_UNIT;
 
+// How many activities a word can have: 16 inputs and 16 outputs.
+const WORD_ACTIVITIES: u32 = 32;
+
 // What the words that can be the next part of a cover say of the activities that are left.
 pub struct Tally {
     // the activities that at least one of the words has
@@ -104,7 +107,7 @@ fn highest_of(activities: u32) -> u32
 }
 
 // Counts each activity of a word once more.
-fn count_word(word: u32, counts: &mut [usize; 32])
+fn count_word(word: u32, counts: &mut [usize; WORD_ACTIVITIES as usize])
     requires { ⌜ Growable (now counts) ⌝ }
     ensures { λ _. ⌜ Grown word (now (counts .entry)) (now (counts .exit)) ⌝ }
 {
@@ -117,10 +120,10 @@ fn count_word(word: u32, counts: &mut [usize; 32])
 }
 
 // For each activity, how many words can be the next part and cover it.
-fn count_choices(words: &[u32], whole: u32, left: u32) -> [usize; 32]
+fn count_choices(words: &[u32], whole: u32, left: u32) -> [usize; WORD_ACTIVITIES as usize]
     ensures { λ r. ⌜ Counts (now (words .entry)) whole left r ⌝ }
 {
-    let mut counts = [0usize; 32];
+    let mut counts = [0usize; WORD_ACTIVITIES as usize];
     let mut at = 0;
     while at < words.len() {
         let word = words[at];
@@ -141,7 +144,7 @@ fn rarest_of(words: &[u32], whole: u32, left: u32) -> u32
     let mut rarest = highest_of(left);
     let mut fewest = counts[rarest as usize];
     let mut next = 0;
-    while next < 32 {
+    while next < WORD_ACTIVITIES {
         let activity = next;
         next += 1;
         if (left >> activity) % 2 == 0 {
