@@ -1,14 +1,14 @@
 -- What the written form of a log leaves out, a frame or a log for each of its conditions, so that none of them is empty. That it leaves out
 -- exactly what checking refuses is shown in Written.
 -- Assumes nothing.
-use Prim.Native.Nat.{ℕ}
+use Prim.Native.Nat.{ℕ, _^_}
 use native.Mathlib.Omega.{arith}
 use mathlib.Core.Path.{_≡_, sym, subst}
 use mathlib.Core.List.{List, [], _∷_, _++_, nil≢cons, cons≢nil, head-eq-of-cons-eq, tail-eq-of-cons-eq}
 use lib.ListN.{length}
 use Rattle.foundation.specs.Lists.{Each}
 use Rattle.foundation.proofs.laws.Lists.{each-head, each-tail}
-use Rattle.event_log_spec.specs.Frames.{Behaviour, FrameUnder, WrittenLog}
+use Rattle.event_log_spec.specs.Frames.{countDigits, Behaviour, FrameUnder, WrittenLog}
 use Rattle.event_log_spec.proofs.Examples.{frame}
 
 module _ (A : ℕ) where
@@ -18,7 +18,7 @@ module _ (A : ℕ) where
   pub no-case : (trace : List ℕ) → FrameUnder A (frame 0 trace) → ⊥
   no-case trace f = omega (arith, f .counted)
 
-  pub count-too-long : (trace : List ℕ) → FrameUnder A (frame 0x10000 trace) → ⊥
+  pub count-too-long : (trace : List ℕ) → FrameUnder A (frame (16 ^ countDigits) trace) → ⊥
   count-too-long trace f = omega (arith, f .countable)
 
   pub too-many-events : (cases : ℕ) (trace : List ℕ) → length trace ≡ 255 → FrameUnder A (frame cases trace) → ⊥
