@@ -1,7 +1,7 @@
 -- All of placelist but its reads and writes, as one call on the bytes read and a buffer for those to be written. Document 01, "Thinning and writing",
 -- last paragraph.
 -- Assumes nothing.
-use Prim.Native.Nat.{ℕ}
+use Prim.Native.Nat.{ℕ, _+_, _*_}
 use mathlib.Core.Bool.{cond}
 use mathlib.Core.List.{List, [], _∷_, _++_}
 use mathlib.Core.Option.{Option}
@@ -15,27 +15,28 @@ use Rattle.limits.specs.Refusals.{given, answer}
 use Rattle.hex_digits.specs.Digits.{writeHex, lineFeed}
 use Rattle.discovery_spec.specs.declared.Run.{Run}
 use Rattle.discovery_spec.specs.Discovery.{run, runRefusal}
+use Rattle.writer.specs.Writing.{lineBytes}
 use Rattle.writer.specs.declared.Written.{Written}
 use Rattle.writer.specs.declared.Written.the-variants.{Bytes, Refused}
 use Rattle.reporter.specs.declared.SettingsFrame.{SettingsFrame}
 use Rattle.reporter.specs.declared.SettingsFrame.the-variants.{Read, Malformed}
-use Rattle.reporter_spec.specs.Program.{capacity, settingsMalformed, settingsIn, refusalLine, report, placelist}
+use Rattle.reporter_spec.specs.Program.{listWords, capacity, settingsMalformed, settingsIn, endDigits, valueDigits, resultBytes, refusalLine, report, placelist}
 
 -- the settings frame of an input: its settings, or that it is malformed
 unfoldable pub frameIn : List ℕ → SettingsFrame
 frameIn input = cond (settingsMalformed input) Malformed (Read (settingsIn input))
 
--- the last line, from what a run answers: two digits of end, eight of replays, eight of visits
+-- the last line, from what a run answers: its end, its replays, its visits
 unfoldable pub runLine : Run → List ℕ
-runLine x = writeHex 2 (x .end) ++ writeHex 8 (x .replays) ++ writeHex 8 (x .visits) ++ (lineFeed ∷ [])
+runLine x = writeHex endDigits (x .end) ++ writeHex valueDigits (x .replays) ++ writeHex valueDigits (x .visits) ++ (lineFeed ∷ [])
 
 -- what is written of a log under settings
 unfoldable pub logReport : Settings → List ℕ → List ℕ
 logReport s text = answer refusalLine (runRefusal s text) (report (run s text capacity))
 
--- the most bytes that are written: a full list of 4,096 lines of 9 bytes, and the last line of 19
+-- the most bytes that are written: the lines of a full list, and the last line
 abbrev pub mostOutput : ℕ
-mostOutput = 36883
+mostOutput = lineBytes * listWords + resultBytes
 
 -- the buffer is to have room for the most bytes, whatever the input
 unfoldable pub reportingRefusal : ℕ → Option Refusal

@@ -15,6 +15,7 @@ use limits::Settings;
 use listing::Listing;
 use listing::list_places;
 use reduction_spec::Reduced;
+use writer::LINE_BYTES;
 use writer::Written;
 
 mod lines; // lines.rt: what is written after a listing
@@ -23,8 +24,18 @@ mod settings_frame; // settings_frame.rt: the settings that the input begins wit
 // The most bytes that are read: document 01's "at most 65,536 bytes".
 pub const MOST_INPUT: usize = 65536;
 
-// The most bytes that are written: a full list of 4,096 lines of 9 bytes, and the last line of 19.
-pub const MOST_OUTPUT: usize = 36883;
+// The most bytes that are written: the lines of a full list, and the last line.
+pub const MOST_OUTPUT: usize = LINE_BYTES * LIST_WORDS + RUN_BYTES;
+
+// The digits of an end, and of the FF and the number of a refusal; and those of replays, visits and a refusal's value.
+const END_DIGITS: usize = 2;
+
+const VALUE_DIGITS: usize = 8;
+
+// The digits of the last line, and its bytes with the line feed.
+const RUN_DIGITS: usize = END_DIGITS + 2 * VALUE_DIGITS;
+
+const RUN_BYTES: usize = RUN_DIGITS + 1;
 
 // What the first line of an input is: the settings that it writes, or no settings frame.
 pub enum SettingsFrame {

@@ -21,9 +21,13 @@ use Rattle.writer.specs.Writing.{listText}
 abbrev pub mostInput : ℕ
 mostInput = 65536
 
+-- the words of its list
+abbrev pub listWords : ℕ
+listWords = 4096
+
 -- what it gives its run: cache, list and replay budget
 unfoldable pub capacity : Capacity
-capacity = holding 1024 4096 1000000
+capacity = holding 1024 listWords 1000000
 
 -- the digits of A, mi and mo each, of T, and of all four
 abbrev pub boundDigits : ℕ
@@ -62,14 +66,29 @@ programRefusal input =
     ∷ runRefusal (settingsIn input) (logIn input)
     ∷ [])
 
+-- the digits of an end, and of the FF and the number of a refusal; and those of replays, visits and a refusal's value
+abbrev pub endDigits : ℕ
+endDigits = 2
+
+abbrev pub valueDigits : ℕ
+valueDigits = 8
+
 -- the line of a refusal: FF, its number, and the line or other value beside it
 unfoldable pub refusalLine : Refusal → List ℕ
-refusalLine r = writeHex 2 0xFF ++ writeHex 2 (number r) ++ writeHex 8 (value r) ++ (lineFeed ∷ [])
+refusalLine r = writeHex endDigits 0xFF ++ writeHex endDigits (number r) ++ writeHex valueDigits (value r) ++ (lineFeed ∷ [])
+
+-- its bytes
+abbrev pub refusalBytes : ℕ
+refusalBytes = 2 * endDigits + valueDigits + 1
 
 -- the last line: the end, the replays, the visits
 unfoldable pub resultLine : Progress → List ℕ
 resultLine p =
-    writeHex 2 (endOf p) ++ writeHex 8 (stateOf p .replays) ++ writeHex 8 (stateOf p .visits) ++ (lineFeed ∷ [])
+    writeHex endDigits (endOf p) ++ writeHex valueDigits (stateOf p .replays) ++ writeHex valueDigits (stateOf p .visits) ++ (lineFeed ∷ [])
+
+-- its bytes
+abbrev pub resultBytes : ℕ
+resultBytes = endDigits + 2 * valueDigits + 1
 
 -- the list that it writes: reduced if the run completed, as found otherwise
 unfoldable pub reportedWords : Progress → List ℕ

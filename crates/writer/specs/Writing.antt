@@ -1,6 +1,6 @@
 -- Writing a list of places as text. Document 01, "Thinning and writing", the writer.
 -- Assumes nothing.
-use Prim.Native.Nat.{ℕ, _*_}
+use Prim.Native.Nat.{ℕ, _+_, _*_}
 use mathlib.Core.List.{List, [], _∷_, _++_, flatMap}
 use mathlib.Core.Option.{Option}
 use lib.Dec.{ltb}
@@ -13,17 +13,24 @@ use Rattle.hex_digits.specs.Digits.{writeHex, lineFeed}
 use Rattle.writer.specs.declared.Written.{Written}
 use Rattle.writer.specs.declared.Written.the-variants.{Bytes, Refused}
 
--- the line of a place: four digits of inputs, four of outputs, a line feed
+-- the digits of a set, and the bytes of a place's line
+abbrev pub setDigits : ℕ
+setDigits = 4
+
+abbrev pub lineBytes : ℕ
+lineBytes = 2 * setDigits + 1
+
+-- the line of a place: the digits of its inputs, those of its outputs, a line feed
 unfoldable pub placeLine : ℕ → List ℕ
-placeLine w = writeHex 4 (placeOf w .inputs) ++ writeHex 4 (placeOf w .outputs) ++ (lineFeed ∷ [])
+placeLine w = writeHex setDigits (placeOf w .inputs) ++ writeHex setDigits (placeOf w .outputs) ++ (lineFeed ∷ [])
 
 -- the lines of a list
 unfoldable pub listText : List ℕ → List ℕ
 listText words = flatMap placeLine words
 
--- the buffer is to have room for the 9 bytes of each place
+-- the buffer is to have room for the line of each place
 unfoldable pub writingRefusal : List ℕ → ℕ → Option Refusal
-writingRefusal words room = wordsRefusal words (ltb room (9 * length words))
+writingRefusal words room = wordsRefusal words (ltb room (lineBytes * length words))
 
 -- the call's answer for a buffer of that many bytes: the bytes written
 unfoldable pub written : List ℕ → ℕ → Written

@@ -4,14 +4,19 @@ ghost use Prim.Native.Nat.{_*_, _≤_};
 ghost use lib.ListN.{length};
 ghost use Rattle.foundation.specs.Buffers.{overwrite};
 ghost use Rattle.limits.specs.Refusals.{Numbered};
-ghost use Rattle.writer.specs.Writing.{placeLine, listText, writingRefusal, written, writtenNumber, writtenValue, writtenAfter};
+ghost use Rattle.writer.specs.Writing.{lineBytes, placeLine, listText, writingRefusal, written, writtenNumber, writtenValue, writtenAfter};
 use hex_digits::hex::write_hex;
 use limits::Refusal;
 use places::list::first_invalid;
 use places::place_of;
 
-// The bytes of a place's line: four digits of inputs, four of outputs, a line feed.
-const LINE_BYTES: usize = 9;
+// The digits of a set.
+const SET_DIGITS: usize = 4;
+
+// The digits of a place's line, its inputs and then its outputs, and its bytes with the line feed.
+const LINE_DIGITS: usize = 2 * SET_DIGITS;
+
+pub const LINE_BYTES: usize = LINE_DIGITS + 1;
 
 // What writing a list answers: the bytes written, or the refusal.
 pub enum Written {
@@ -19,20 +24,20 @@ pub enum Written {
     Refused(Refusal),
 }
 
-// Writes the line of a place into its 9 bytes.
+// Writes the line of a place into the bytes of a line.
 fn write_line(word: u32, line: &mut [u8])
-    requires { ⌜ length (now line) ≡ 9 ⌝ }
+    requires { ⌜ length (now line) ≡ lineBytes ⌝ }
     ensures { λ _. ⌜ now (line .exit) ≡ placeLine word ⌝ }
 {
     let place = place_of(word);
-    write_hex(place.inputs as u64, &mut line[0..4]);
-    write_hex(place.outputs as u64, &mut line[4..8]);
-    line[8] = b'\n';
+    write_hex(place.inputs as u64, &mut line[0..SET_DIGITS]);
+    write_hex(place.outputs as u64, &mut line[SET_DIGITS..LINE_DIGITS]);
+    line[LINE_DIGITS] = b'\n';
 }
 
 // Writes the lines of a list from the front of a buffer that has room for them, and answers their bytes.
 pub fn write_lines(words: &[u32], text: &mut [u8]) -> usize
-    requires { ⌜ 9 * length (now words) ≤ length (now text) ⌝ }
+    requires { ⌜ lineBytes * length (now words) ≤ length (now text) ⌝ }
     ensures count { λ r. ⌜ r ≡ length (listText (now (words .entry))) ⌝ }
     ensures text { λ _. ⌜ now (text .exit) ≡ overwrite (listText (now (words .entry))) (now (text .entry)) ⌝ }
 {

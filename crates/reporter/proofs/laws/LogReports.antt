@@ -11,8 +11,8 @@ use Rattle.limits.specs.declared.Refusal.{Refusal}
 use Rattle.limits.specs.declared.Settings.{Settings}
 use Rattle.discovery_spec.specs.declared.Run.{Run}
 use Rattle.discovery_spec.specs.Discovery.{run, runRefusal}
-use Rattle.writer.specs.Writing.{listText}
-use Rattle.reporter_spec.specs.Program.{capacity, refusalLine}
+use Rattle.writer.specs.Writing.{lineBytes, listText}
+use Rattle.reporter_spec.specs.Program.{listWords, capacity, refusalLine, resultBytes}
 use Rattle.reporter.specs.Reporting.{runLine, logReport, mostOutput}
 use Rattle.reporter.proofs.laws.OutputRoom.{report-parts}
 use Rattle.reporter.proofs.laws.RunListed.{Reports, reported-fits}
@@ -26,10 +26,10 @@ module _ {s : Settings} {text : List ℕ} {x : Run} {count : ℕ} {buffer : List
   unfolding logReport
   run-report = rw (r .passes, r .own, r .these) (report-parts (run s text capacity))
 
-  pub count-fits : count ≤ 4096
+  pub count-fits : count ≤ listWords
   unfolding capacity
   count-fits = omega (arith, r .counted, reported-fits s text capacity (r .passes))
 
 -- so many words, and the last line
-pub words-fit : (count : ℕ) (buffer : List ℕ) {room : ℕ} → count ≤ 4096 → mostOutput ≤ room → 9 * length (take count buffer) + 19 ≤ room
+pub words-fit : (count : ℕ) (buffer : List ℕ) {room : ℕ} → count ≤ listWords → mostOutput ≤ room → lineBytes * length (take count buffer) + resultBytes ≤ room
 words-fit count buffer few enough = omega (arith, length-take count buffer)

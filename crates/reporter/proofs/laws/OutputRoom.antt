@@ -1,5 +1,5 @@
--- What placelist writes for any input fits in the most output: a refusal is one line of 13 bytes; else there are 9 bytes for each reported place, of
--- which there are no more than the list takes, and 19 of the last line.
+-- What placelist writes for any input fits in the most output: a refusal is one line; else there is a line for each reported place, of which there
+-- are no more than the list takes, and the last line.
 -- Assumes nothing.
 use Prim.Native.Nat.{ℕ, _≤_, _<_}
 use native.Mathlib.Omega.{arith}
@@ -22,15 +22,15 @@ use Rattle.discovery_spec.specs.Search.{Progress}
 use Rattle.discovery_spec.specs.Discovery.{run, summary, runRefusal}
 use Rattle.writer.specs.Writing.{listText}
 use Rattle.writer.proofs.laws.PlaceLines.{length-text}
-use Rattle.reporter_spec.specs.Program.{mostInput, capacity, settingsMalformed, settingsIn, logIn, programRefusal, refusalLine, resultLine, reportedWords, report, placelist}
+use Rattle.reporter_spec.specs.Program.{mostInput, capacity, settingsMalformed, settingsIn, logIn, programRefusal, refusalLine, refusalBytes, resultLine, resultBytes, reportedWords, report, placelist}
 use Rattle.reporter.specs.Reporting.{runLine, logReport, mostOutput}
 use Rattle.reporter.proofs.laws.RunListed.{reported-fits}
 
-pub length-refusal : (r : Refusal) → length (refusalLine r) ≡ 13
+pub length-refusal : (r : Refusal) → length (refusalLine r) ≡ refusalBytes
 unfolding refusalLine
 length-refusal r = simp (length-append, length-write)
 
-pub length-run : (x : Run) → length (runLine x) ≡ 19
+pub length-run : (x : Run) → length (runLine x) ≡ resultBytes
 unfolding runLine
 length-run x = simp (length-append, length-write)
 

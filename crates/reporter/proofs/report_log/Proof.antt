@@ -10,7 +10,7 @@ use lib.ListN.{length, replicate, length-take}
 use Rattle.discovery_spec.specs.Discovery.{capacityOf}
 use Rattle.listing.specs.declared.Listing.the-variants.{Complete}
 use Rattle.listing.specs.Listing.{Resources, resourcesOf, GoesAsWritten}
-use Rattle.reporter_spec.specs.Program.{capacity}
+use Rattle.reporter_spec.specs.Program.{listWords, capacity}
 use Rattle.reporter.proofs.laws.RunListed.{Reports, listing-refused, listing-stopped, listing-completed, reduction-passes}
 use Rattle.reporter.proofs.laws.LogReports.{refused-report, run-report, count-fits, words-fit}
 use Rattle.reporter.proofs.report_log.Statement.{statement}
@@ -62,7 +62,7 @@ completed c =
 
 -- the words are there: the list and the second buffer are as long as they were
 left-long : (c : tie.After-list-places)
-    → let left = c .list-places .last .1 .1 .1 .1 in (length (left .0) ≡ 4096) × (length (left .1 .0) ≡ 4096)
+    → let left = c .list-places .last .1 .1 .1 .1 in (length (left .0) ≡ listWords) × (length (left .1 .0) ≡ listWords)
 left-long c = (c .list-places .kept .1 .1 .1 .1 .0, c .list-places .kept .1 .1 .1 .1 .1 .0)
 
 slice-aggregate-write-report : tie.Need-slice-aggregate-write-report

@@ -1,5 +1,5 @@
--- The lines of places: each has 9 bytes, so those of a list have 9 a place; and a line is filled by the digits of two numbers, four of each, and one
--- byte after them.
+-- The lines of places: all have the same length, so those of a list have that many bytes a place; and a line is filled by the digits of two numbers
+-- and one byte after them.
 -- Assumes nothing.
 use Prim.Native.Nat.{ℕ, _*_}
 use native.Mathlib.Nat.{mul-comm}
@@ -13,50 +13,50 @@ use Rattle.foundation.proofs.laws.Lists.{length-flatMap}
 use Rattle.places.specs.Places.{placeOf}
 use Rattle.hex_digits.specs.Digits.{writeHex, lineFeed}
 use Rattle.hex_digits.proofs.laws.DigitLaws.{length-write}
-use Rattle.writer.specs.Writing.{placeLine, listText}
+use Rattle.writer.specs.Writing.{setDigits, lineBytes, placeLine, listText}
 
-pub length-line : (w : ℕ) → length (placeLine w) ≡ 9
+pub length-line : (w : ℕ) → length (placeLine w) ≡ lineBytes
 unfolding placeLine
 length-line w =
-    let first = writeHex 4 (placeOf w .inputs) in
-    let second = writeHex 4 (placeOf w .outputs) in
+    let first = writeHex setDigits (placeOf w .inputs) in
+    let second = writeHex setDigits (placeOf w .outputs) in
     omega (
       arith,
       length-append (first ++ second) (lineFeed ∷ []),
       length-append first second,
-      length-write 4 (placeOf w .inputs),
-      length-write 4 (placeOf w .outputs),
+      length-write setDigits (placeOf w .inputs),
+      length-write setDigits (placeOf w .outputs),
     )
 
--- 9 bytes a place
-pub length-text : (words : List ℕ) → length (listText words) ≡ 9 * length words
+-- the bytes of a line a place
+pub length-text : (words : List ℕ) → length (listText words) ≡ lineBytes * length words
 unfolding listText
-length-text words = length-flatMap placeLine 9 length-line words ∙ mul-comm (length words) 9
+length-text words = length-flatMap placeLine lineBytes length-line words ∙ mul-comm (length words) lineBytes
 
--- 9 bytes in which two numbers were written, four digits each, and then a line feed
-module _ (line first second : List ℕ) (w : ℕ) (nine : length line ≡ 9) where
-  filled : length first ≡ 4 → set (putMid 4 4 (first ++ postOf 0 4 line) second) 8 lineFeed ≡ set (first ++ (second ++ drop 8 line)) 8 lineFeed
-  filled four = rw (take-at first (drop 4 line) 4 four, drop-at first (drop 4 line) 4 four, drop-drop 4 4 line)
+-- a line in which two numbers were written, with the digits of a set each, and then a line feed
+module _ (line first second : List ℕ) (w : ℕ) (whole : length line ≡ lineBytes) where
+  filled : length first ≡ setDigits → set (putMid setDigits setDigits (first ++ postOf 0 setDigits line) second) (2 * setDigits) lineFeed ≡ set (first ++ (second ++ drop (2 * setDigits) line)) (2 * setDigits) lineFeed
+  filled long = rw (take-at first (drop setDigits line) setDigits long, drop-at first (drop setDigits line) setDigits long, drop-drop setDigits setDigits line)
 
-  ended : length first ≡ 4 → length second ≡ 4 → set (first ++ (second ++ drop 8 line)) 8 lineFeed ≡ first ++ second ++ (lineFeed ∷ [])
-  ended four four' =
+  ended : length first ≡ setDigits → length second ≡ setDigits → set (first ++ (second ++ drop (2 * setDigits) line)) (2 * setDigits) lineFeed ≡ first ++ second ++ (lineFeed ∷ [])
+  ended long long' =
       rw (
-        drop-cons line 8 0 (omega arith),
-        drop-of-length-le line {i = 9} (omega arith),
-        ← append-assoc first second (getD line 8 0 ∷ []),
-      ) (set-at (first ++ second) (getD line 8 0) [] lineFeed 8 (omega (arith, length-append first second)))
+        drop-cons line (2 * setDigits) 0 (omega arith),
+        drop-of-length-le line {i = lineBytes} (omega arith),
+        ← append-assoc first second (getD line (2 * setDigits) 0 ∷ []),
+      ) (set-at (first ++ second) (getD line (2 * setDigits) 0) [] lineFeed (2 * setDigits) (omega (arith, length-append first second)))
 
-  pub line-written : first ≡ writeHex (length (take 4 line)) (placeOf w .inputs)
-      → second ≡ writeHex (length (take 4 (drop 4 (first ++ drop 4 line)))) (placeOf w .outputs)
-      → set (putMid 4 4 (first ++ postOf 0 4 line) second) 8 lineFeed ≡ placeLine w
+  pub line-written : first ≡ writeHex (length (take setDigits line)) (placeOf w .inputs)
+      → second ≡ writeHex (length (take setDigits (drop setDigits (first ++ drop setDigits line)))) (placeOf w .outputs)
+      → set (putMid setDigits setDigits (first ++ postOf 0 setDigits line) second) (2 * setDigits) lineFeed ≡ placeLine w
   unfolding placeLine
   line-written e f =
-      let e' : first ≡ writeHex 4 (placeOf w .inputs) = rw (length-take-le 4 line (omega arith)) at e in
-      let four : length first ≡ 4 = ap length e' ∙ length-write 4 (placeOf w .inputs) in
-      let behind = length-take-le 4 (drop 4 line) (omega (arith, length-drop 4 line)) in
-      let f' : second ≡ writeHex 4 (placeOf w .outputs) = rw (drop-at first (drop 4 line) 4 four, behind) at f in
-      filled four
-      ∙ ended four (ap length f' ∙ length-write 4 (placeOf w .outputs))
+      let e' : first ≡ writeHex setDigits (placeOf w .inputs) = rw (length-take-le setDigits line (omega arith)) at e in
+      let long : length first ≡ setDigits = ap length e' ∙ length-write setDigits (placeOf w .inputs) in
+      let behind = length-take-le setDigits (drop setDigits line) (omega (arith, length-drop setDigits line)) in
+      let f' : second ≡ writeHex setDigits (placeOf w .outputs) = rw (drop-at first (drop setDigits line) setDigits long, behind) at f in
+      filled long
+      ∙ ended long (ap length f' ∙ length-write setDigits (placeOf w .outputs))
       ∙ ap₂ (λ (a b : List ℕ). a ++ b ++ (lineFeed ∷ [])) e' f'
 
 -- the lines of a list and one word more

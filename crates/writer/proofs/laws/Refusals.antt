@@ -1,4 +1,4 @@
--- Words that each stand for a place, with a buffer that has room for 9 bytes a place, are written: the answer is the bytes of their lines, which then
+-- Words that each stand for a place, with a buffer that has room for their lines, are written: the answer is the bytes of their lines, which then
 -- stand in front of the buffer. Other calls are refused, for the first word that stands for no place or else for want of room, and leave the buffer
 -- as it was. An answer has the number and the value of the call's refusal.
 -- Assumes nothing.
@@ -16,7 +16,7 @@ use Rattle.limits.proofs.laws.AnswerNumbers.{answer-numbered}
 use Rattle.places.specs.Places.{wordsFault, wordsRefusal}
 use Rattle.writer.specs.declared.Written.{Written}
 use Rattle.writer.specs.declared.Written.the-variants.{Bytes, Refused}
-use Rattle.writer.specs.Writing.{listText, writingRefusal, written, writtenNumber, writtenValue, writtenAfter}
+use Rattle.writer.specs.Writing.{lineBytes, listText, writingRefusal, written, writtenNumber, writtenValue, writtenAfter}
 
 -- what a call answers, and what it leaves in the buffer
 pub record WrittenAs (words before : List ℕ) (answer : Written) (after : List ℕ) : Type 0 where
@@ -35,16 +35,16 @@ module _ (words before : List ℕ) where
   invalid-refused index e = refused-as (rw e refl)
 
   module _ (valid : wordsFault 0 words ≡ none) where
-    pub short-refused : length before < 9 * length words → WrittenAs words before (Refused BufferTooSmall) before
+    pub short-refused : length before < lineBytes * length words → WrittenAs words before (Refused BufferTooSmall) before
     unfolding writingRefusal wordsRefusal firstRefusal
-    short-refused short = refused-as (rw (valid, lt-ltb (length before) (9 * length words) short) refl)
+    short-refused short = refused-as (rw (valid, lt-ltb (length before) (lineBytes * length words) short) refl)
 
     -- and else no refusal
-    pub lines-written : 9 * length words ≤ length before
+    pub lines-written : lineBytes * length words ≤ length before
         → WrittenAs words before (Bytes (length (listText words))) (overwrite (listText words) before)
     unfolding written writtenAfter writingRefusal wordsRefusal firstRefusal
     lines-written enough =
-        let passes = le-ltb (length before) (9 * length words) enough in
+        let passes = le-ltb (length before) (lineBytes * length words) enough in
         record { answers = rw (valid, passes); leaves = rw (valid, passes) }
 
 -- an answer that is a refusal or a number of bytes has the number and the value of that refusal

@@ -4,7 +4,7 @@
 use Prim.Native.Nat.{_-_}
 use native.Mathlib.Omega.{arith}
 use lib.ListN.{length}
-use Rattle.writer.proofs.laws.LineByLine.{LinesSo, none-written, same-room, next-fits, next-nine, next-written, all-written}
+use Rattle.writer.proofs.laws.LineByLine.{LinesSo, none-written, same-room, next-fits, next-whole, next-written, all-written}
 use Rattle.writer.proofs.write_lines.Statement.{statement}
 use Rattle.writer.proofs.write_lines.Tie as tie
 
@@ -31,7 +31,7 @@ write-lines-spec =
     next-fits (l .loop .inv) (l .before .before .before .pre) (c .before .loop-test .taken))  -- part-write-line-end
     (λ c κs.
     let l = c .before .before .before in
-    next-nine (l .loop .inv) (l .before .before .before .pre) (c .before .before .loop-test .taken))  -- write-line-requires
+    next-whole (l .loop .inv) (l .before .before .before .pre) (c .before .before .loop-test .taken))  -- write-line-requires
     (λ c. omega arith)  -- add-at
     (λ c. omega arith)  -- loop-less
     (λ c.

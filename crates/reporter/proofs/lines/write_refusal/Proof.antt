@@ -5,7 +5,7 @@ use native.Mathlib.Omega.{arith}
 use mathlib.Core.Path.{sym, ap, _∙_}
 use lib.ListN.{length}
 use Rattle.limits.specs.Refusals.{number, value}
-use Rattle.reporter_spec.specs.Program.{refusalLine}
+use Rattle.reporter_spec.specs.Program.{endDigits, valueDigits, refusalLine}
 use Rattle.reporter.proofs.laws.LineParts.{overwrite-length, line-put}
 use Rattle.reporter.proofs.laws.OutputRoom.{length-refusal}
 use Rattle.reporter.proofs.lines.write_refusal.Statement.{statement}
@@ -21,7 +21,7 @@ returns c =
     let first = numbered .before .before .before in
     let entry = first .before .before .before in
     let r = entry .args .refusal in
-    let put = line-put (entry .args .output .now) 0xFF (number r) (value r) 2 2 8 (entry .pre) in
+    let put = line-put (entry .args .output .now) 0xFF (number r) (value r) endDigits endDigits valueDigits (entry .pre) in
     let two = rw (numbered .number-of .ensures) at (second .write-hex2 .ensures) in
     let three = rw (valued .value-of .ensures) at (third .write-hex3 .ensures) in
     (sym (length-refusal r), put _ _ _ (first .write-hex .ensures) two three)

@@ -7,6 +7,7 @@ use mathlib.Core.Path.{sym, ap₂, _∙_}
 use lib.ListN.{length, length-append, length-drop, length-take}
 use Rattle.writer.specs.Writing.{listText}
 use Rattle.writer.proofs.laws.PlaceLines.{length-text}
+use Rattle.reporter_spec.specs.Program.{resultBytes}
 use Rattle.reporter.specs.Reporting.{runLine}
 use Rattle.reporter.proofs.laws.LineParts.{rest-put}
 use Rattle.reporter.proofs.laws.OutputRoom.{length-run}
@@ -14,7 +15,7 @@ use Rattle.reporter.proofs.lines.write_report.Statement.{statement}
 use Rattle.reporter.proofs.lines.write_report.Tie as tie
 
 -- there is room for the last line behind the list
-room-left : (c : tie.After-write-lines) → c .write-lines .result + 19 ≤ length (c .write-lines .last .1 .0)
+room-left : (c : tie.After-write-lines) → c .write-lines .result + resultBytes ≤ length (c .write-lines .last .1 .0)
 room-left c =
     let entry = c .before .before .before .before in
     omega (arith, entry .pre, c .write-lines .ensures .0, length-text (entry .args .words .now), c .write-lines .kept .1 .0)

@@ -4,6 +4,7 @@ use borrow.Author.Needs.{needs}
 use native.Mathlib.Omega.{arith}
 use mathlib.Core.Path.{sym, ap, _∙_}
 use lib.ListN.{length}
+use Rattle.reporter_spec.specs.Program.{endDigits, valueDigits}
 use Rattle.reporter.specs.Reporting.{runLine}
 use Rattle.reporter.proofs.laws.LineParts.{overwrite-length, line-put}
 use Rattle.reporter.proofs.laws.OutputRoom.{length-run}
@@ -18,7 +19,7 @@ returns c =
     let first = second .before .before .before .before .before in
     let entry = first .before .before .before .before in
     let x = entry .args .run in
-    let put = line-put (entry .args .output .now) (x .end) (x .replays) (x .visits) 2 8 8 (entry .pre) in (
+    let put = line-put (entry .args .output .now) (x .end) (x .replays) (x .visits) endDigits valueDigits valueDigits (entry .pre) in (
       sym (length-run x),
       put _ _ _ (first .write-hex .ensures) (second .write-hex2 .ensures) (third .write-hex3 .ensures),
     )
