@@ -1,4 +1,5 @@
-// Stepping through the frames of a log that was checked: document 01, "Settings and the log". No activity is checked again.
+// Stepping through the frames of a log that was checked: document 01, "Settings and the log". No
+// activity is checked again.
 ghost use mathlib.Core.Path.{_≡_};
 ghost use Rattle.event_log.specs.Stepping.{casesAt, traceEnd};
 use log_lines::Count;

@@ -1,6 +1,6 @@
 -- What checking a log answers. Document 01, "Settings and the log": numbers 2 to 6 of the table, and the order of checks in a text and a line.
 -- Assumes nothing.
-use Prim.Native.Nat.{ℕ, suc, _+_, _-_, _%_}
+use Prim.Native.Nat.{ℕ, suc, _-_, _%_}
 use mathlib.Core.Bool.{Bool, not, _||_}
 use mathlib.Core.List.{List, [], _∷_}
 use mathlib.Core.Option.{Option, none}

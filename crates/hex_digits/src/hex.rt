@@ -1,4 +1,5 @@
-// Hexadecimal digits: 0 to 9 and A to F, never lower case. Numbers are read from them and written in them.
+// Hexadecimal digits: 0 to 9 and A to F, never lower case. Numbers are read from them and written
+// in them.
 ghost use mathlib.Core.Path.{_≡_};
 ghost use Prim.Native.Nat.{_<_, _≤_};
 ghost use lib.ListN.{length};
@@ -17,7 +18,8 @@ pub fn classify(byte: u8) -> Digit
     }
 }
 
-// The number that a slice of digits writes, the highest first, of which there are no more than 64 bits take.
+// The number that a slice of digits writes, the highest first, of which there are no more than 64
+// bits take.
 pub fn read_hex(digits: &[u8]) -> Number
     requires { ⌜ length (now digits) ≤ mostDigits ⌝ }
     ensures { λ r. ⌜ r ≡ numberIn (now (digits .entry)) ⌝ }
@@ -36,7 +38,8 @@ pub fn read_hex(digits: &[u8]) -> Number
     Number::Value(number)
 }
 
-// The byte that writes a value below 16, with no branch: from 10 on it stands 7 further, where the letters are.
+// The byte that writes a value below 16, with no branch: from 10 on it stands 7 further, where the
+// letters are.
 fn digit_byte(value: u8) -> u8
     requires { ⌜ value < 16 ⌝ }
     ensures { λ r. ⌜ r ≡ digitByte value ⌝ }

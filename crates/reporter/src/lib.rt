@@ -27,7 +27,8 @@ pub const MOST_INPUT: usize = 65536;
 // The most bytes that are written: the lines of a full list, and the last line.
 pub const MOST_OUTPUT: usize = LINE_BYTES * LIST_WORDS + RUN_BYTES;
 
-// The digits of an end, and of the FF and the number of a refusal; and those of replays, visits and a refusal's value.
+// The digits of an end, and of the FF and the number of a refusal; and those of replays, visits and
+// a refusal's value.
 const END_DIGITS: usize = 2;
 
 const VALUE_DIGITS: usize = 8;

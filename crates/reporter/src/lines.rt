@@ -19,8 +19,8 @@ use limits::value_of;
 use log_lines::LINE_FEED;
 use writer::write_lines;
 
-// The line of a refusal: where the digits of its number and of its value begin, its digits, and its bytes with the
-// line feed.
+// The line of a refusal: where the digits of its number and of its value begin, its digits, and its
+// bytes with the line feed.
 const NUMBER_AT: usize = END_DIGITS;
 
 const VALUE_AT: usize = 2 * END_DIGITS;

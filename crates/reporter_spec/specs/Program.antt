@@ -66,7 +66,8 @@ programRefusal input =
     ∷ runRefusal (settingsIn input) (logIn input)
     ∷ [])
 
--- the digits of an end, and of the FF and the number of a refusal; and those of replays, visits and a refusal's value
+-- the digits of an end, and of the FF and the number of a refusal; and those of replays, visits and
+-- a refusal's value
 abbrev pub endDigits : ℕ
 endDigits = 2
 

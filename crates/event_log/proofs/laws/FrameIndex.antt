@@ -1,6 +1,7 @@
--- The words of a log's frames, stored one after the other: where a frame begins, the words of those before it stand in front of the buffer, and those
--- of the frames that are left make up the rest. A log has no more frames than there is room for, and so few bytes that where a frame starts leaves room
--- for its cases in a word.
+-- The words of a log's frames, stored one after the other: where a frame begins, the words of those
+-- before it stand in front of the buffer, and those of the frames that are left make up the rest. A
+-- log has no more frames than there is room for, and so few bytes that where a frame starts leaves
+-- room for its cases in a word.
 -- Assumes nothing.
 use Prim.Native.Nat.{ℕ, _+_, _-_, _*_, _/_, _≤_, _<_}
 use native.Mathlib.Nat.{sub-zero}

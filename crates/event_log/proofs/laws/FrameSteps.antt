@@ -1,5 +1,5 @@
--- Stepping through the frames of a log: where a trace ends, byte by byte, and that of a text that goes on with a frame the count and the end at an
--- index are the frame's own.
+-- Stepping through the frames of a log: where a trace ends, byte by byte, and that of a text that
+-- goes on with a frame the count and the end at an index are the frame's own.
 -- Assumes nothing.
 use Prim.Native.Nat.{ℕ, suc, _+_, _*_, _/_, _%_, _^_, _≤_, _<_}
 use native.Mathlib.Omega.{arith}

@@ -1,11 +1,12 @@
--- A number's digits, read one after the other from the front of a slice: each one makes the number of those before it 16 times as large and adds its
--- value. Where the back is reached, the number is the one that the slice writes; at a byte that is no digit, the slice writes none.
+-- A number's digits, read one after the other from the front of a slice: each one makes the number
+-- of those before it 16 times as large and adds its value. Where the back is reached, the number is
+-- the one that the slice writes; at a byte that is no digit, the slice writes none.
 -- Assumes nothing.
-use Prim.Native.Nat.{ℕ, suc, _+_, _*_, _^_, _≤_, _<_}
+use Prim.Native.Nat.{ℕ, _+_, _*_, _^_, _≤_, _<_}
 use native.Mathlib.Nat.{pow-suc, pow-le-pow-right, mul-assoc}
 use native.Mathlib.Numerals.{add-one}
 use native.Mathlib.Omega.{arith}
-use mathlib.Core.Path.{_≡_, refl, sym, ap, _∙_}
+use mathlib.Core.Path.{_≡_, refl}
 use mathlib.Core.Bool.{true, false, false≢true}
 use mathlib.Core.List.{List, [], _∷_, _++_}
 use lib.Dec.{lit<}
@@ -16,7 +17,7 @@ use Rattle.foundation.proofs.laws.Booleans.{by-test}
 use Rattle.foundation.proofs.laws.Each.{all-append, all-at}
 use Rattle.hex_digits.specs.declared.Digit.the-variants.{Value, NonDigit}
 use Rattle.hex_digits.specs.declared.Number.the-variants as Number
-use Rattle.hex_digits.specs.Digits.{digitOf, isDigit, isValue, digitValue, readHex, numberIn, mostDigits}
+use Rattle.hex_digits.specs.Digits.{digitOf, isDigit, digitValue, readHex, numberIn, mostDigits}
 use Rattle.hex_digits.proofs.laws.DigitLaws.{digit-below, read-small}
 
 -- a digit more behind the others

@@ -1,4 +1,5 @@
--- What bytes write as a number: all of them are digits and it is theirs, or one is none. Each way follows from the answer and gives it.
+-- What bytes write as a number: all of them are digits and it is theirs, or one is none. Each way
+-- follows from the answer and gives it.
 -- Assumes nothing.
 use Prim.Native.Nat.{ℕ, _^_, _≤_, _<_}
 use native.Mathlib.Nat.{pow-le-pow-right}

@@ -1,4 +1,5 @@
--- The case count at the front of a text, from what its first bytes, as many as a count has digits, write.
+-- The case count at the front of a text, from what its first bytes, as many as a count has digits,
+-- write.
 -- Assumes nothing.
 use Prim.Native.Nat.{ℕ, _≤_, _<_}
 use mathlib.Core.Path.{_≡_}

@@ -1,6 +1,7 @@
--- A line by what its two parts say, its count and its activities: where either is malformed so is the line, and else its length, its case count
--- and the faults of its trace are those that the parts give. The digits of the count are the line's first bytes, and what is left of the
--- line is the first line of the text after them.
+-- A line by what its two parts say, its count and its activities: where either is malformed so is
+-- the line, and else its length, its case count and the faults of its trace are those that the
+-- parts give. The digits of the count are the line's first bytes, and what is left of the line is
+-- the first line of the text after them.
 -- Assumes nothing.
 use Prim.Native.Nat.{ℕ, _+_, _-_, _%_, _≤_, _<_}
 use mathlib.Core.Path.{_≡_, refl, sym, ap, _∙_}

@@ -1,5 +1,6 @@
--- The settings frame: it is malformed where it is too short, where no line feed stands behind its digits, or where a byte of one of its numbers is no
--- digit; else its settings are those numbers. The digits of the frame are those of its four numbers, one after the other.
+-- The settings frame: it is malformed where it is too short, where no line feed stands behind its
+-- digits, or where a byte of one of its numbers is no digit; else its settings are those numbers.
+-- The digits of the frame are those of its four numbers, one after the other.
 -- Assumes nothing.
 use Prim.Native.Nat.{ℕ, _+_, _*_, _≤_, _<_}
 use native.Mathlib.Omega.{arith}

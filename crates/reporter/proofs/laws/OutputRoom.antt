@@ -1,5 +1,6 @@
--- What placelist writes for any input fits in the most output: a refusal is one line; else there is a line for each reported place, of which there
--- are no more than the list takes, and the last line.
+-- What placelist writes for any input fits in the most output: a refusal is one line; else there is
+-- a line for each reported place, of which there are no more than the list takes, and the last
+-- line.
 -- Assumes nothing.
 use Prim.Native.Nat.{ℕ, _≤_, _<_}
 use native.Mathlib.Omega.{arith}

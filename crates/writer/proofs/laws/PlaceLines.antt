@@ -1,5 +1,5 @@
--- The lines of places: all have the same length, so those of a list have that many bytes a place; and a line is filled by the digits of two numbers
--- and one byte after them.
+-- The lines of places: all have the same length, so those of a list have that many bytes a place;
+-- and a line is filled by the digits of two numbers and one byte after them.
 -- Assumes nothing.
 use Prim.Native.Nat.{ℕ, _*_}
 use native.Mathlib.Nat.{mul-comm}

@@ -1,6 +1,7 @@
--- Words that each stand for a place, with a buffer that has room for their lines, are written: the answer is the bytes of their lines, which then
--- stand in front of the buffer. Other calls are refused, for the first word that stands for no place or else for want of room, and leave the buffer
--- as it was. An answer has the number and the value of the call's refusal.
+-- Words that each stand for a place, with a buffer that has room for their lines, are written: the
+-- answer is the bytes of their lines, which then stand in front of the buffer. Other calls are
+-- refused, for the first word that stands for no place or else for want of room, and leave the
+-- buffer as it was. An answer has the number and the value of the call's refusal.
 -- Assumes nothing.
 use Prim.Native.Nat.{ℕ, _*_, _≤_, _<_}
 use mathlib.Core.Path.{_≡_, refl}

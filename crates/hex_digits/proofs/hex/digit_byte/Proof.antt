@@ -1,4 +1,5 @@
--- `hex_digits::hex::digit_byte` meets its contract: from 10 on the quotient by 16 of the value and 6 is 1, and below it is 0.
+-- `hex_digits::hex::digit_byte` meets its contract: from 10 on the quotient by 16 of the value and
+-- 6 is 1, and below it is 0.
 -- Assumes nothing.
 use Prim.Native.Nat.{ℕ, _+_, _*_, _/_, _<_}
 use borrow.Author.Needs.{needs}

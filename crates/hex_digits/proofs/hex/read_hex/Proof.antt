@@ -1,5 +1,5 @@
--- `hex_digits::hex::read_hex` meets its contract. The loop's invariant: the bytes before the index are digits, and the number is the one that they write.
--- The measure is what is left of the slice.
+-- `hex_digits::hex::read_hex` meets its contract. The loop's invariant: the bytes before the index
+-- are digits, and the number is the one that they write. The measure is what is left of the slice.
 -- Assumes nothing.
 use Prim.Native.Nat.{_+_, _-_, _*_, _^_, _<_}
 use native.Mathlib.Omega.{arith}

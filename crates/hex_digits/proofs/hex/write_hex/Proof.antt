@@ -1,5 +1,5 @@
--- `hex_digits::hex::write_hex` meets its contract. The loop's invariant: the lowest digits stand from the index on, and the rest of the number is what is
--- above them. The measure is the index.
+-- `hex_digits::hex::write_hex` meets its contract. The loop's invariant: the lowest digits stand
+-- from the index on, and the rest of the number is what is above them. The measure is the index.
 -- Assumes nothing.
 use native.Mathlib.Omega.{arith}
 use Rattle.hex_digits.proofs.laws.DigitsFromBack.{WrittenFrom, none-written, one-written, all-written}

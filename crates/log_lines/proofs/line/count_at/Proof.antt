@@ -1,4 +1,5 @@
--- `log_lines::line::count_at` meets its contract: by what the digits from the index write. Where fewer bytes are left, there is no count.
+-- `log_lines::line::count_at` meets its contract: by what the digits from the index write. Where
+-- fewer bytes are left, there is no count.
 -- Assumes nothing.
 use mathlib.Core.Path.{_≡_, sym, _∙_}
 use native.Mathlib.Nat.{add-sub-cancel-left}
