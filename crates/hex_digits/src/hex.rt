@@ -1,5 +1,4 @@
-// Hexadecimal digits: 0 to 9 and A to F, never lower case. Numbers are read from them and written
-// in them.
+// Hexadecimal digits: 0 to 9 and A to F, never lower case. Reading and writing numbers in them.
 ghost use mathlib.Core.Path.{_≡_};
 ghost use Prim.Native.Nat.{_<_, _≤_};
 ghost use lib.ListN.{length};
@@ -18,8 +17,7 @@ pub fn classify(byte: u8) -> Digit
     }
 }
 
-// The number that a slice of digits writes, the highest first, of which there are no more than 64
-// bits take.
+// The number that some digits write, the highest first: no more digits than 64 bits take.
 pub fn read_hex(digits: &[u8]) -> Number
     requires { ⌜ length (now digits) ≤ mostDigits ⌝ }
     ensures { λ r. ⌜ r ≡ numberIn (now (digits .entry)) ⌝ }

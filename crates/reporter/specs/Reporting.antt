@@ -23,8 +23,8 @@ use Rattle.reporter.specs.declared.SettingsFrame.the-variants.{Read, Mal
 use Rattle.reporter_spec.specs.Program.{listWords, capacity, settingsMalformed, settingsIn, endDigits, valueDigits, resultBytes, refusalLine, report, placelist}
 
 -- the settings frame of an input: its settings, or that it is malformed
-unfoldable pub frameIn : List ℕ → SettingsFrame
-frameIn input = cond (settingsMalformed input) Malformed (Read (settingsIn input))
+unfoldable pub settingsFrameIn : List ℕ → SettingsFrame
+settingsFrameIn input = cond (settingsMalformed input) Malformed (Read (settingsIn input))
 
 -- the last line, from what a run answers: its end, its replays, its visits
 unfoldable pub runLine : Run → List ℕ

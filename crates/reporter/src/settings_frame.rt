@@ -1,6 +1,6 @@
 // The first line of the input, the settings frame: document 01, "Thinning and writing", last paragraph.
 ghost use mathlib.Core.Path.{_≡_};
-ghost use Rattle.reporter.specs.Reporting.{frameIn};
+ghost use Rattle.reporter.specs.Reporting.{settingsFrameIn};
 use crate::BOUND_DIGITS;
 use crate::SETTINGS_DIGITS;
 use crate::SettingsFrame;
@@ -18,7 +18,7 @@ const THRESHOLD_AT: usize = 3 * BOUND_DIGITS;
 
 // The settings that an input begins with: the digits of A, mi, mo and T, and a line feed.
 pub fn settings_in(input: &[u8]) -> SettingsFrame
-    ensures { λ r. ⌜ r ≡ frameIn (now (input .entry)) ⌝ }
+    ensures { λ r. ⌜ r ≡ settingsFrameIn (now (input .entry)) ⌝ }
 {
     if input.len() <= SETTINGS_DIGITS {
         return SettingsFrame::Malformed;

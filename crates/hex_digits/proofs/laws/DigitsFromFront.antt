@@ -2,7 +2,7 @@
 -- of those before it 16 times as large and adds its value. Where the back is reached, the number is
 -- the one that the slice writes; at a byte that is no digit, the slice writes none.
 -- Assumes nothing.
-use Prim.Native.Nat.{ℕ, _+_, _*_, _^_, _≤_, _<_}
+use Prim.Native.Nat.{ℕ, _+_, _-_, _*_, _^_, _≤_, _<_}
 use native.Mathlib.Nat.{pow-suc, pow-le-pow-right, mul-assoc}
 use native.Mathlib.Numerals.{add-one}
 use native.Mathlib.Omega.{arith}
@@ -57,7 +57,7 @@ module _ {digits : List ℕ} where
         → 16 * number + value < 2 ^ 64
     one-fits more few value e =
         let small = rw (length-take-le at digits (r .inside)) at (read-small (take at digits)) in
-        let most : 16 ^ at ≤ 16 ^ 15 = pow-le-pow-right (lit< tt) {j = 15} (omega arith) in
+        let most : 16 ^ at ≤ 16 ^ (mostDigits - 1) = pow-le-pow-right (lit< tt) {j = mostDigits - 1} (omega arith) in
         omega (arith, r .so-far, small, most, digit-below (getD digits at 0) value e)
 
     pub other-read : at < length digits → digitOf (getD digits at 0) ≡ NonDigit → numberIn digits ≡ Number.NonDigits

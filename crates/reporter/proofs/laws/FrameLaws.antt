@@ -20,20 +20,20 @@ use Rattle.hex_digits.specs.Digits.{isDigit, numberIn, lineFeed}
 use Rattle.hex_digits.proofs.laws.NumberLaws.{number-digits, no-number-others}
 use Rattle.reporter_spec.specs.Program.{boundDigits, thresholdDigits, settingsDigits, settingsMalformed, settingsIn}
 use Rattle.reporter.specs.declared.SettingsFrame.the-variants.{Read, Malformed}
-use Rattle.reporter.specs.Reporting.{frameIn}
+use Rattle.reporter.specs.Reporting.{settingsFrameIn}
 
 module _ (input : List ℕ) where
-  pub frame-unended : (getD input settingsDigits 0 ≡ lineFeed → ⊥) → frameIn input ≡ Malformed
-  unfolding frameIn settingsMalformed
+  pub frame-unended : (getD input settingsDigits 0 ≡ lineFeed → ⊥) → settingsFrameIn input ≡ Malformed
+  unfolding settingsFrameIn settingsMalformed
   frame-unended h = rw (ne-eqb (getD input settingsDigits 0) lineFeed h, and-false (all isDigit (take settingsDigits input)))
 
-  pub frame-short : length input ≤ settingsDigits → frameIn input ≡ Malformed
+  pub frame-short : length input ≤ settingsDigits → settingsFrameIn input ≡ Malformed
   frame-short h = let none = List·getD-eq-default input 0 h in frame-unended (λ e. omega (arith, none, e))
 
   -- one of the numbers, with so many digits before it and after it
   pub number-missing : (before digits after : ℕ) → before + (digits + after) ≡ settingsDigits → numberIn (take digits (drop before input)) ≡ NonDigits
-      → frameIn input ≡ Malformed
-  unfolding frameIn settingsMalformed
+      → settingsFrameIn input ≡ Malformed
+  unfolding settingsFrameIn settingsMalformed
   number-missing before digits after parts e =
       let some-other : all isDigit (take (before + (digits + after)) input) ≡ false =
       rw (
@@ -52,8 +52,8 @@ module _ (input : List ℕ) where
       → numberIn (take boundDigits (drop boundDigits input)) ≡ Value (s .inputs)
       → numberIn (take boundDigits (drop (2 * boundDigits) input)) ≡ Value (s .outputs)
       → numberIn (take thresholdDigits (drop (3 * boundDigits) input)) ≡ Value (s .threshold)
-      → frameIn input ≡ Read s
-  unfolding frameIn settingsMalformed settingsIn
+      → settingsFrameIn input ≡ Read s
+  unfolding settingsFrameIn settingsMalformed settingsIn
   frame-read s ended a i o t =
       let first = number-digits (take boundDigits input) (s .activities) a in
       let second = number-digits (take boundDigits (drop boundDigits input)) (s .inputs) i in
@@ -75,7 +75,7 @@ module _ (input : List ℕ) where
       rw (digits, ended, first .number, second .number, third .number, fourth .number)
 
   -- a frame has a line feed after its digits
-  pub frame-long : (s : Settings) → frameIn input ≡ Read s → settingsDigits < length input
+  pub frame-long : (s : Settings) → settingsFrameIn input ≡ Read s → settingsDigits < length input
   frame-long s e =
       by-test
       (ltb settingsDigits (length input))
@@ -83,11 +83,11 @@ module _ (input : List ℕ) where
       (λ f. let short = frame-short (ltb-false settingsDigits (length input) f) in impossible (cc))
 
   -- what the frame says of the definitions
-  pub read-settings : (s : Settings) → frameIn input ≡ Read s → (settingsMalformed input ≡ false) × (settingsIn input ≡ s)
-  unfolding frameIn
+  pub read-settings : (s : Settings) → settingsFrameIn input ≡ Read s → (settingsMalformed input ≡ false) × (settingsIn input ≡ s)
+  unfolding settingsFrameIn
   read-settings s e =
       by-test (settingsMalformed input) (λ t. let h = rw t at e in impossible (cc)) (λ f. (f, let h = rw f at e in cc))
 
-  pub read-malformed : frameIn input ≡ Malformed → settingsMalformed input ≡ true
-  unfolding frameIn
+  pub read-malformed : settingsFrameIn input ≡ Malformed → settingsMalformed input ≡ true
+  unfolding settingsFrameIn
   read-malformed e = by-test (settingsMalformed input) (λ t. t) (λ f. let h = rw f at e in impossible (cc))

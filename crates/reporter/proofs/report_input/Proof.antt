@@ -11,7 +11,7 @@ use lib.Seq.{take-all}
 use Rattle.foundation.specs.Buffers.{overwrite}
 use Rattle.reporter_spec.specs.Program.{settingsDigits, logIn}
 use Rattle.reporter.specs.declared.SettingsFrame.the-variants.{Read}
-use Rattle.reporter.specs.Reporting.{frameIn, logReport}
+use Rattle.reporter.specs.Reporting.{settingsFrameIn, logReport}
 use Rattle.reporter.proofs.laws.FrameLaws.{frame-long, read-settings, read-malformed}
 use Rattle.reporter.proofs.laws.OutputRoom.{too-large, frame-malformed, log-decides}
 use Rattle.reporter.proofs.report_input.Statement.{statement}
@@ -25,7 +25,7 @@ returns c =
 
 -- the settings that were read
 framed : (c : tie.After-known-told)
-    → frameIn (c .before .before .before .before .before .before .before .args .input .now) ≡ Read (c .before .settings .given .0 .0)
+    → settingsFrameIn (c .before .before .before .before .before .before .before .args .input .now) ≡ Read (c .before .settings .given .0 .0)
 framed c = sym (c .before .before .before .settings-in .ensures) ∙ c .before .settings .given .1
 
 -- so the log starts inside the input, or at its end
