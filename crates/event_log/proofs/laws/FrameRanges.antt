@@ -6,11 +6,11 @@ use native.Mathlib.Nat.{sub-zero}
 use native.Mathlib.Omega.{arith}
 use mathlib.Core.Path.{_≡_, ap, _∙_}
 use mathlib.Core.List.{List, [], _∷_, _++_}
-use lib.ListN.{length, take, drop, getD, length-drop}
+use lib.ListN.{length, drop, length-drop}
 use lib.Seq.{take-suc, take-length, getD-drop}
 use Rattle.event_log_spec.specs.Frames.{Frame}
 use Rattle.event_log_spec.specs.Lines.{framesOf}
-use Rattle.event_log.specs.FrameIndex.{frameIndex, Indexed, frameAt, framesBetween}
+use Rattle.event_log.specs.FrameIndex.{Indexed, frameAt, framesBetween}
 use Rattle.event_log.proofs.laws.FrameIndex.{length-index}
 
 -- there are as many words as frames

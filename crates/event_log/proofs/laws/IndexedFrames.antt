@@ -5,9 +5,9 @@ use Prim.Native.Nat.{ℕ, zero, suc, _+_, _-_, _*_, _/_, _%_, _≤_, _<_}
 use native.Mathlib.Omega.{arith}
 use mathlib.Core.Path.{_≡_, refl, sym, ap, _∙_}
 use mathlib.Core.List.{List, [], _∷_, _++_, flatMap}
-use lib.ListN.{length, take, drop, getD, length-append, length-drop}
+use lib.ListN.{length, take, drop, getD}
 use lib.Seq.{take-at}
-use Rattle.foundation.specs.Lists.{Each, each-nil, each-cons}
+use Rattle.foundation.specs.Lists.{Each}
 use Rattle.foundation.proofs.laws.Lists.{each-head, each-tail}
 use Rattle.limits.specs.Settings.{mostActivities}
 use Rattle.hex_digits.specs.Digits.{lineFeed}

@@ -7,7 +7,7 @@ use native.Mathlib.Nat.{pow-suc, pow-le-pow-right, mul-assoc}
 use native.Mathlib.Numerals.{add-one}
 use native.Mathlib.Omega.{arith}
 use mathlib.Core.Path.{_≡_, refl}
-use mathlib.Core.Bool.{true, false, false≢true}
+use mathlib.Core.Bool.{true, false≢true}
 use mathlib.Core.List.{List, [], _∷_, _++_}
 use lib.Dec.{lit<}
 use lib.ListN.{length, take, getD, length-append}

@@ -6,13 +6,13 @@ use native.Mathlib.Omega.{arith}
 use mathlib.Core.Path.{_≡_}
 use mathlib.Core.Bool.{true}
 use mathlib.Core.List.{List}
-use lib.ListN.{length, take, drop, length-take, length-drop}
+use lib.ListN.{length, drop, length-take, length-drop}
 use Rattle.foundation.specs.Lists.{all}
 use Rattle.foundation.proofs.laws.Each.{each-all, each-take, each-drop}
 use Rattle.limits.specs.Settings.{mostActivities}
 use Rattle.places.specs.declared.Place.{Place}
 use Rattle.hex_digits.specs.Digits.{isDigit}
-use Rattle.event_log_spec.specs.Frames.{Frame, FrameUnder, WrittenLog, countDigits, mostEvents, mostFrames}
+use Rattle.event_log_spec.specs.Frames.{Frame, FrameUnder, WrittenLog, mostEvents}
 use Rattle.event_log_spec.specs.Lines.{framesOf}
 use Rattle.event_log_spec.proofs.laws.PairLaws.{length-pairs, pairs-digits}
 use Rattle.event_log.specs.FrameIndex.{activityDigits, framesBetween}
