@@ -1,9 +1,8 @@
 -- One name for all definitions of this layer and of those below it: a proof by computation says `unfolding opened`.
 -- Assumes nothing.
-use Rattle.discovery.specs.Rulings.{rulingOf}
 use Rattle.discovery.specs.Standing.{stateIn, prunes}
-use Rattle.discovery_spec.proofs.Opened.{opened as opened-search}
+use Rattle.rulings.proofs.Opened.{opened as opened-rulings}
 
 unfoldable pub opened : Unit {0}
-unfolding rulingOf stateIn prunes opened-search
+unfolding stateIn prunes opened-rulings
 opened = tt

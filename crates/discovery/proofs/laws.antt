@@ -1,4 +1,3 @@
-pub mod WordByWord
 pub mod AsTheyAre
 pub mod Recording
 pub mod Visiting

@@ -4,14 +4,12 @@ ghost use Prim.Native.Nat.{ℕ, _+_, _≤_, _<_, _^_};
 ghost use Rattle.event_log_spec.specs.Lines.{framesOf};
 ghost use Rattle.event_log.specs.FrameIndex.{Indexed};
 ghost use Rattle.replay_spec.specs.Judgement.{verdict};
-ghost use Rattle.discovery.specs.declared.Ruling.the-variants.{Unruled};
-ghost use Rattle.discovery.specs.Rulings.{rulingOf};
+ghost use Rattle.rulings.specs.declared.Ruling.the-variants.{Unruled};
+ghost use Rattle.rulings.specs.Rulings.{rulingOf};
 ghost use Rattle.discovery_spec.specs.Search.{conclude, visit};
 ghost use Rattle.discovery_spec.specs.Discovery.{capacityOf};
 ghost use Rattle.discovery.specs.Standing.{stateIn, Stands, Leaves, prunes};
-use crate::Ruling;
 use crate::Turn;
-use crate::cache::ruling_by;
 use discovery_spec::BUDGET_SPENT;
 use discovery_spec::LIST_FULL;
 use discovery_spec::MARK_UNIT;
@@ -21,6 +19,8 @@ use places::word_of;
 use replay::verdict_over;
 use replay_spec::Verdict;
 use replay_spec::mark_of;
+use rulings::Ruling;
+use rulings::ruling_by;
 
 // What follows the replay of a candidate that no word ruled: it is found, or its word goes where there is room among the rejected. Only a word
 // that was kept can prune, and then by its own mark.

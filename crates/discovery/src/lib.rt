@@ -17,16 +17,8 @@ use limits::settings_in_range;
 use log_lines::MOST_FRAMES;
 use places::Place;
 
-mod cache; // cache.rt: which way the words of rejected places rule a candidate
 mod candidate; // candidate.rt: one candidate in its turn
 mod search; // search.rt: the candidates one after the other
-
-// Which way the words of rejected places rule a candidate.
-pub enum Ruling {
-    Unruled,
-    AsUnderfed,
-    AsOverfed,
-}
 
 // What a candidate's turn leaves: the run with it, and whether its descendants are pruned.
 pub struct Turn {

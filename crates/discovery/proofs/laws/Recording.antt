@@ -19,12 +19,12 @@ use Rattle.places.specs.Places.{word}
 use Rattle.places.proofs.laws.Words.{Storable}
 use Rattle.replay_spec.specs.declared.Verdict.{Verdict}
 use Rattle.replay_spec.specs.declared.Verdict.the-variants.{Fitting, Underfed, Overfed, Both}
-use Rattle.discovery.specs.declared.Ruling.{Ruling}
-use Rattle.discovery.specs.declared.Ruling.the-variants.{Unruled, AsUnderfed, AsOverfed}
+use Rattle.rulings.specs.declared.Ruling.{Ruling}
+use Rattle.rulings.specs.declared.Ruling.the-variants.{Unruled, AsUnderfed, AsOverfed}
 use Rattle.discovery_spec.specs.declared.Run.{Run}
 use Rattle.replay_spec.specs.Judgement.{mark}
 use Rattle.discovery_spec.specs.Rejected.{markUnit, rejectedWord, rulesUnderfed, ruledOverfed, ruled}
-use Rattle.discovery.specs.Rulings.{rulingOf}
+use Rattle.rulings.specs.Rulings.{rulingOf}
 use Rattle.discovery_spec.specs.Search.{State, Progress, going, stopped, withFound, withRejected, withPruned, proceed, accept, reject, conclude, stateOf, endOf}
 use Rattle.discovery_spec.specs.Discovery.{summary, capacityOf}
 use Rattle.discovery.specs.Standing.{stateIn, Stands, Leaves, prunes}

@@ -10,10 +10,10 @@ use lib.Seq.{length-take-le}
 use borrow.Author.Tests.{le-leb, lt-leb}
 use Rattle.places.specs.declared.Place.{Place}
 use Rattle.replay_spec.specs.declared.Verdict.{Verdict}
-use Rattle.discovery.specs.declared.Ruling.{Ruling}
-use Rattle.discovery.specs.declared.Ruling.the-variants.{Unruled}
+use Rattle.rulings.specs.declared.Ruling.{Ruling}
+use Rattle.rulings.specs.declared.Ruling.the-variants.{Unruled}
 use Rattle.discovery_spec.specs.declared.Run.{Run}
-use Rattle.discovery.specs.Rulings.{rulingOf}
+use Rattle.rulings.specs.Rulings.{rulingOf}
 use Rattle.discovery_spec.specs.Search.{State, Progress, going, stopped, visited, replayedOnce, withPruned, proceed, conclude, replay, visit, stateOf, endOf}
 use Rattle.discovery_spec.specs.Discovery.{summary, capacityOf}
 use Rattle.discovery.specs.Standing.{stateIn, Stands, Leaves, prunes}

@@ -6,8 +6,8 @@ use mathlib.Core.Path.{_≡_, refl, sym, _∙_}
 use borrow.Author.Needs.{needs}
 use Rattle.event_log_spec.specs.Lines.{framesOf}
 use Rattle.replay_spec.specs.Judgement.{verdict}
-use Rattle.discovery.specs.declared.Ruling.the-variants.{AsUnderfed, AsOverfed}
-use Rattle.discovery.specs.Rulings.{rulingOf}
+use Rattle.rulings.specs.declared.Ruling.the-variants.{AsUnderfed, AsOverfed}
+use Rattle.rulings.specs.Rulings.{rulingOf}
 use Rattle.discovery.specs.Standing.{stateIn}
 use Rattle.discovery.proofs.laws.Visiting.{skipped, budget-spent, replays-it}
 use Rattle.discovery.proofs.candidate.visit_candidate.Statement.{statement}

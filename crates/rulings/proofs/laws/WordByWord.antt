@@ -10,10 +10,10 @@ use lib.ListN.{length, drop, getD, drop-of-length-le}
 use lib.Seq.{drop-cons}
 use Rattle.foundation.specs.Lists.{any}
 use Rattle.places.specs.declared.Place.{Place}
-use Rattle.discovery.specs.declared.Ruling.{Ruling}
-use Rattle.discovery.specs.declared.Ruling.the-variants.{Unruled, AsUnderfed, AsOverfed}
+use Rattle.rulings.specs.declared.Ruling.{Ruling}
+use Rattle.rulings.specs.declared.Ruling.the-variants.{Unruled, AsUnderfed, AsOverfed}
 use Rattle.discovery_spec.specs.Rejected.{rulesUnderfed, rulesOverfed, ruledOverfed}
-use Rattle.discovery.specs.Rulings.{rulingOf}
+use Rattle.rulings.specs.Rulings.{rulingOf}
 
 module _ (c : Place) where
   -- the ruling by further words, where a word so far ruled c underfed or none did

@@ -1,4 +1,4 @@
--- `discovery::cache::ruling_by` meets its contract. The loop's invariant: the words from the index on, with what is known of those before, give the
+-- `rulings::ruling_by` meets its contract. The loop's invariant: the words from the index on, with what is known of those before, give the
 -- ruling of all. The measure is what is left of the words.
 -- Assumes nothing.
 use Prim.Native.Nat.{_-_, _≤_}
@@ -7,10 +7,10 @@ use mathlib.Core.Path.{_≡_, sym, _∙_}
 use mathlib.Core.Bool.{true, false}
 use borrow.Author.Needs.{needs}
 use lib.ListN.{length, drop}
-use Rattle.discovery.specs.Rulings.{rulingOf}
-use Rattle.discovery.proofs.laws.WordByWord.{rulingFrom, from-none, decides, next-word, no-word}
-use Rattle.discovery.proofs.cache.ruling_by.Statement.{statement}
-use Rattle.discovery.proofs.cache.ruling_by.Tie as tie
+use Rattle.rulings.specs.Rulings.{rulingOf}
+use Rattle.rulings.proofs.laws.WordByWord.{rulingFrom, from-none, decides, next-word, no-word}
+use Rattle.rulings.proofs.ruling_by.Statement.{statement}
+use Rattle.rulings.proofs.ruling_by.Tie as tie
 
 abbrev Inv-loop : tie.InvT-loop
 Inv-loop words candidate underfed₀ at₀ underfed at =

@@ -3,12 +3,18 @@ ghost use mathlib.Core.Path.{_≡_};
 ghost use mathlib.Core.Bool.{_||_};
 ghost use lib.Dec.{eqb};
 ghost use Rattle.discovery_spec.specs.Rejected.{markIn, placeIn, rulesUnderfed, rulesOverfed};
-ghost use Rattle.discovery.specs.Rulings.{rulingOf};
-use crate::Ruling;
+ghost use Rattle.rulings.specs.Rulings.{rulingOf};
 use candidate_order::is_lighter;
 use discovery_spec::MARK_UNIT;
 use places::Place;
 use places::place_of;
+
+// Which way the words of rejected places rule a candidate.
+pub enum Ruling {
+    Unruled,
+    AsUnderfed,
+    AsOverfed,
+}
 
 // The place of a word.
 fn place_in(word: u64) -> Place

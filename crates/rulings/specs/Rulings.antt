@@ -6,8 +6,8 @@ use mathlib.Core.List.{List}
 use Rattle.foundation.specs.Lists.{any}
 use Rattle.places.specs.declared.Place.{Place}
 use Rattle.discovery_spec.specs.Rejected.{rulesUnderfed, ruledOverfed}
-use Rattle.discovery.specs.declared.Ruling.{Ruling}
-use Rattle.discovery.specs.declared.Ruling.the-variants.{Unruled, AsUnderfed, AsOverfed}
+use Rattle.rulings.specs.declared.Ruling.{Ruling}
+use Rattle.rulings.specs.declared.Ruling.the-variants.{Unruled, AsUnderfed, AsOverfed}
 
 -- which way the words rule c: as overfed where any does, since that also decides about its descendants, else as underfed, or not at all
 unfoldable pub rulingOf : List ℕ → Place → Ruling

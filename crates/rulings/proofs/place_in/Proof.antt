@@ -1,9 +1,9 @@
--- `discovery::cache::place_in` meets its contract: the mark is above what the place takes of the word.
+-- `rulings::place_in` meets its contract: the mark is above what the place takes of the word.
 -- Assumes nothing.
 use borrow.Author.Needs.{needs}
 use Rattle.discovery_spec.specs.Rejected.{placeIn}
-use Rattle.discovery.proofs.cache.place_in.Statement.{statement}
-use Rattle.discovery.proofs.cache.place_in.Tie as tie
+use Rattle.rulings.proofs.place_in.Statement.{statement}
+use Rattle.rulings.proofs.place_in.Tie as tie
 
 pub place-in-spec : {M : Type 1} → statement M
 unfolding placeIn
