@@ -1,4 +1,4 @@
--- The call's answer and what it leaves in the buffer, tried at the least room and on an input that is refused, and the line of a run.
+-- The call's answer and what it leaves in the buffer, tried at the least room and on an input that is refused.
 -- Assumes nothing.
 use mathlib.Core.Path.{_≡_, refl}
 use mathlib.Core.List.{[], _∷_, _++_}
@@ -6,11 +6,10 @@ use lib.ListN.{replicate}
 use Rattle.foundation.specs.Text.{bytes}
 use Rattle.limits.specs.declared.Refusal.the-variants.{BufferTooSmall}
 use Rattle.writer.specs.declared.Written.the-variants.{Bytes, Refused}
-use Rattle.reporter.specs.Reporting.{runLine, reported, outputAfter}
+use Rattle.reporter.specs.Reporting.{reported, outputAfter}
 use Rattle.reporter.proofs.Opened.{opened}
 
 pub record Examples : Type 0 where
-  pub last-line : runLine (record { end = 1; found = 3; rejected = 9; replays = 255; visits = 4096 }) ≡ bytes "01000000FF00001000\n"
   pub least-room : reported [] 36883 ≡ Bytes 13
   pub too-short : reported [] 36882 ≡ Refused BufferTooSmall
   pub refused-as-found : outputAfter [] (1 ∷ 2 ∷ []) ≡ 1 ∷ 2 ∷ []
@@ -19,4 +18,4 @@ pub record Examples : Type 0 where
 pub examples : Examples
 unfolding opened
 examples =
-    record { last-line = refl; least-room = refl; too-short = refl; refused-as-found = refl; tail-kept = refl }
+    record { least-room = refl; too-short = refl; refused-as-found = refl; tail-kept = refl }

@@ -1,5 +1,3 @@
-pub mod FrameLaws
-pub mod LineParts
 pub mod ListingCases
 pub mod RunListed
 pub mod OutputRoom

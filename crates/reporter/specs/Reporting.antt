@@ -2,8 +2,7 @@
 -- last paragraph.
 -- Assumes nothing.
 use Prim.Native.Nat.{ℕ, _+_, _*_}
-use mathlib.Core.Bool.{cond}
-use mathlib.Core.List.{List, [], _∷_, _++_}
+use mathlib.Core.List.{List}
 use mathlib.Core.Option.{Option}
 use lib.Dec.{ltb}
 use lib.ListN.{length}
@@ -12,23 +11,11 @@ use Rattle.limits.specs.declared.Refusal.{Refusal}
 use Rattle.limits.specs.declared.Refusal.the-variants.{BufferTooSmall}
 use Rattle.limits.specs.declared.Settings.{Settings}
 use Rattle.limits.specs.Refusals.{given, answer}
-use Rattle.hex_digits.specs.Digits.{writeHex, lineFeed}
-use Rattle.discovery_spec.specs.declared.Run.{Run}
 use Rattle.discovery_spec.specs.Discovery.{run, runRefusal}
 use Rattle.writer.specs.Writing.{lineBytes}
 use Rattle.writer.specs.declared.Written.{Written}
 use Rattle.writer.specs.declared.Written.the-variants.{Bytes, Refused}
-use Rattle.reporter.specs.declared.SettingsFrame.{SettingsFrame}
-use Rattle.reporter.specs.declared.SettingsFrame.the-variants.{Read, Malformed}
-use Rattle.reporter_spec.specs.Program.{listWords, capacity, settingsMalformed, settingsIn, endDigits, valueDigits, resultBytes, refusalLine, report, placelist}
-
--- the settings frame of an input: its settings, or that it is malformed
-unfoldable pub settingsFrameIn : List ℕ → SettingsFrame
-settingsFrameIn input = cond (settingsMalformed input) Malformed (Read (settingsIn input))
-
--- the last line, from what a run answers: its end, its replays, its visits
-unfoldable pub runLine : Run → List ℕ
-runLine x = writeHex endDigits (x .end) ++ writeHex valueDigits (x .replays) ++ writeHex valueDigits (x .visits) ++ (lineFeed ∷ [])
+use Rattle.reporter_spec.specs.Program.{listWords, capacity, resultBytes, refusalLine, report, placelist}
 
 -- what is written of a log under settings
 unfoldable pub logReport : Settings → List ℕ → List ℕ

@@ -7,52 +7,25 @@ ghost use Rattle.limits.specs.Refusals.{Numbered};
 ghost use Rattle.writer.specs.Writing.{writtenNumber, writtenValue};
 ghost use Rattle.reporter_spec.specs.Program.{placelist};
 ghost use Rattle.reporter.specs.Reporting.{logReport, mostOutput, reportingRefusal, reported, outputAfter};
-use crate::lines::write_refusal;
-use crate::lines::write_report;
-use crate::settings_frame::settings_in;
 use limits::Refusal;
 use limits::Settings;
 use listing::Listing;
 use listing::list_places;
 use reduction_spec::Reduced;
+use report_lines::RUN_BYTES;
+use report_lines::SETTINGS_BYTES;
+use report_lines::SettingsFrame;
+use report_lines::lines::write_refusal;
+use report_lines::lines::write_report;
+use report_lines::settings_frame::settings_in;
 use writer::LINE_BYTES;
 use writer::Written;
-
-mod lines; // lines.rt: what is written after a listing
-mod settings_frame; // settings_frame.rt: the settings that the input begins with
 
 // The most bytes that are read: document 01's "at most 65,536 bytes".
 pub const MOST_INPUT: usize = 65536;
 
 // The most bytes that are written: the lines of a full list, and the last line.
 pub const MOST_OUTPUT: usize = LINE_BYTES * LIST_WORDS + RUN_BYTES;
-
-// The digits of an end, and of the FF and the number of a refusal; and those of replays, visits and
-// a refusal's value.
-const END_DIGITS: usize = 2;
-
-const VALUE_DIGITS: usize = 8;
-
-// The digits of the last line, and its bytes with the line feed.
-const RUN_DIGITS: usize = END_DIGITS + 2 * VALUE_DIGITS;
-
-const RUN_BYTES: usize = RUN_DIGITS + 1;
-
-// What the first line of an input is: the settings that it writes, or no settings frame.
-pub enum SettingsFrame {
-    Read(Settings),
-    Malformed,
-}
-
-// The digits of A, mi and mo each, and of T.
-const BOUND_DIGITS: usize = 2;
-
-const THRESHOLD_DIGITS: usize = 4;
-
-// The digits of the settings frame, and its bytes with the line feed.
-const SETTINGS_DIGITS: usize = 3 * BOUND_DIGITS + THRESHOLD_DIGITS;
-
-const SETTINGS_BYTES: usize = SETTINGS_DIGITS + 1;
 
 // The words of the cache of rejected places: document 01's "Shelf 1,024 words".
 const CACHE_WORDS: usize = 1024;

@@ -13,7 +13,8 @@ use Rattle.discovery_spec.specs.declared.Run.{Run}
 use Rattle.discovery_spec.specs.Discovery.{run, runRefusal}
 use Rattle.writer.specs.Writing.{lineBytes, listText}
 use Rattle.reporter_spec.specs.Program.{listWords, capacity, refusalLine, resultBytes}
-use Rattle.reporter.specs.Reporting.{runLine, logReport, mostOutput}
+use Rattle.report_lines.specs.ProgramLines.{runLine}
+use Rattle.reporter.specs.Reporting.{logReport, mostOutput}
 use Rattle.reporter.proofs.laws.OutputRoom.{report-parts}
 use Rattle.reporter.proofs.laws.RunListed.{Reports, reported-fits}
 

@@ -17,23 +17,15 @@ use Rattle.limits.specs.declared.Refusal.the-variants.{InvalidSetting, TooLarge
 use Rattle.limits.specs.declared.Settings.{Settings}
 use Rattle.limits.specs.Refusals.{answer}
 use Rattle.limits.proofs.laws.FirstOf.{only-one}
-use Rattle.hex_digits.proofs.laws.DigitLaws.{length-write}
-use Rattle.discovery_spec.specs.declared.Run.{Run}
 use Rattle.discovery_spec.specs.Search.{Progress}
 use Rattle.discovery_spec.specs.Discovery.{run, summary, runRefusal}
 use Rattle.writer.specs.Writing.{listText}
 use Rattle.writer.proofs.laws.PlaceLines.{length-text}
-use Rattle.reporter_spec.specs.Program.{mostInput, capacity, settingsMalformed, settingsIn, logIn, programRefusal, refusalLine, refusalBytes, resultLine, resultBytes, reportedWords, report, placelist}
-use Rattle.reporter.specs.Reporting.{runLine, logReport, mostOutput}
+use Rattle.reporter_spec.specs.Program.{mostInput, capacity, settingsMalformed, settingsIn, logIn, programRefusal, refusalLine, resultLine, reportedWords, report, placelist}
+use Rattle.report_lines.specs.ProgramLines.{runLine}
+use Rattle.report_lines.proofs.laws.LineLengths.{length-refusal, length-run}
+use Rattle.reporter.specs.Reporting.{logReport, mostOutput}
 use Rattle.reporter.proofs.laws.RunListed.{reported-fits}
-
-pub length-refusal : (r : Refusal) → length (refusalLine r) ≡ refusalBytes
-unfolding refusalLine
-length-refusal r = simp (length-append, length-write)
-
-pub length-run : (x : Run) → length (runLine x) ≡ resultBytes
-unfolding runLine
-length-run x = simp (length-append, length-write)
 
 -- the report of a run is its words and the line of its answer
 pub report-parts : (p : Progress) → report p ≡ listText (reportedWords p) ++ runLine (summary p)

@@ -10,9 +10,10 @@ use lib.ListN.{length, drop, length-drop}
 use lib.Seq.{take-all}
 use Rattle.foundation.specs.Buffers.{overwrite}
 use Rattle.reporter_spec.specs.Program.{settingsDigits, logIn}
-use Rattle.reporter.specs.declared.SettingsFrame.the-variants.{Read}
-use Rattle.reporter.specs.Reporting.{settingsFrameIn, logReport}
-use Rattle.reporter.proofs.laws.FrameLaws.{frame-long, read-settings, read-malformed}
+use Rattle.report_lines.specs.declared.SettingsFrame.the-variants.{Read}
+use Rattle.report_lines.specs.ProgramLines.{settingsFrameIn}
+use Rattle.reporter.specs.Reporting.{logReport}
+use Rattle.report_lines.proofs.laws.FrameLaws.{frame-long, read-settings, read-malformed}
 use Rattle.reporter.proofs.laws.OutputRoom.{too-large, frame-malformed, log-decides}
 use Rattle.reporter.proofs.report_input.Statement.{statement}
 use Rattle.reporter.proofs.report_input.Tie as tie

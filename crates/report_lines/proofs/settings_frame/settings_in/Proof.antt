@@ -1,4 +1,4 @@
--- `reporter::settings_frame::settings_in` meets its contract: the tests and the four numbers decide
+-- `report_lines::settings_frame::settings_in` meets its contract: the tests and the four numbers decide
 -- as the frame is defined, and a number of two digits fits a byte, one of four 16 bits.
 -- Assumes nothing.
 use Prim.Native.Nat.{ℕ, _+_, _*_, _^_, _<_}
@@ -11,9 +11,9 @@ use Rattle.hex_digits.specs.declared.Number.the-variants.{Value}
 use Rattle.hex_digits.specs.Digits.{numberIn}
 use Rattle.hex_digits.proofs.laws.NumberLaws.{number-below}
 use Rattle.reporter_spec.specs.Program.{boundDigits, thresholdDigits}
-use Rattle.reporter.proofs.laws.FrameLaws.{frame-short, frame-unended, number-missing, frame-read}
-use Rattle.reporter.proofs.settings_frame.settings_in.Statement.{statement}
-use Rattle.reporter.proofs.settings_frame.settings_in.Tie as tie
+use Rattle.report_lines.proofs.laws.FrameLaws.{frame-short, frame-unended, number-missing, frame-read}
+use Rattle.report_lines.proofs.settings_frame.settings_in.Statement.{statement}
+use Rattle.report_lines.proofs.settings_frame.settings_in.Tie as tie
 
 -- where each number was read, and the input
 abbrev first : tie.After-known-told2 → tie.After-known-told

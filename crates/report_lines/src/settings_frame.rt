@@ -1,6 +1,6 @@
 // The first line of the input, the settings frame: document 01, "Thinning and writing", last paragraph.
 ghost use mathlib.Core.Path.{_≡_};
-ghost use Rattle.reporter.specs.Reporting.{settingsFrameIn};
+ghost use Rattle.report_lines.specs.ProgramLines.{settingsFrameIn};
 use crate::BOUND_DIGITS;
 use crate::SETTINGS_DIGITS;
 use crate::SettingsFrame;

@@ -1,4 +1,4 @@
--- `reporter::lines::write_report` meets its contract: the last line goes behind the lines of the list, where there is room for it.
+-- `report_lines::lines::write_report` meets its contract: the last line goes behind the lines of the list, where there is room for it.
 -- Assumes nothing.
 use borrow.Author.Needs.{needs}
 use Prim.Native.Nat.{_+_, _≤_}
@@ -8,11 +8,11 @@ use lib.ListN.{length, length-append, length-drop, length-take}
 use Rattle.writer.specs.Writing.{listText}
 use Rattle.writer.proofs.laws.PlaceLines.{length-text}
 use Rattle.reporter_spec.specs.Program.{resultBytes}
-use Rattle.reporter.specs.Reporting.{runLine}
-use Rattle.reporter.proofs.laws.LineParts.{rest-put}
-use Rattle.reporter.proofs.laws.OutputRoom.{length-run}
-use Rattle.reporter.proofs.lines.write_report.Statement.{statement}
-use Rattle.reporter.proofs.lines.write_report.Tie as tie
+use Rattle.report_lines.specs.ProgramLines.{runLine}
+use Rattle.report_lines.proofs.laws.LineParts.{rest-put}
+use Rattle.report_lines.proofs.laws.LineLengths.{length-run}
+use Rattle.report_lines.proofs.lines.write_report.Statement.{statement}
+use Rattle.report_lines.proofs.lines.write_report.Tie as tie
 
 -- there is room for the last line behind the list
 room-left : (c : tie.After-write-lines) → c .write-lines .result + resultBytes ≤ length (c .write-lines .last .1 .0)

@@ -19,8 +19,8 @@ use Rattle.hex_digits.specs.declared.Number.the-variants.{Value, NonDigits}
 use Rattle.hex_digits.specs.Digits.{isDigit, numberIn, lineFeed}
 use Rattle.hex_digits.proofs.laws.NumberLaws.{number-digits, no-number-others}
 use Rattle.reporter_spec.specs.Program.{boundDigits, thresholdDigits, settingsDigits, settingsMalformed, settingsIn}
-use Rattle.reporter.specs.declared.SettingsFrame.the-variants.{Read, Malformed}
-use Rattle.reporter.specs.Reporting.{settingsFrameIn}
+use Rattle.report_lines.specs.declared.SettingsFrame.the-variants.{Read, Malformed}
+use Rattle.report_lines.specs.ProgramLines.{settingsFrameIn}
 
 module _ (input : List ℕ) where
   pub frame-unended : (getD input settingsDigits 0 ≡ lineFeed → ⊥) → settingsFrameIn input ≡ Malformed

@@ -1,4 +1,4 @@
--- `reporter::lines::write_refusal` meets its contract: the digits of FF, of the number and of the value, and the line feed are the line.
+-- `report_lines::lines::write_refusal` meets its contract: the digits of FF, of the number and of the value, and the line feed are the line.
 -- Assumes nothing.
 use borrow.Author.Needs.{needs}
 use native.Mathlib.Omega.{arith}
@@ -6,10 +6,10 @@ use mathlib.Core.Path.{sym, ap, _∙_}
 use lib.ListN.{length}
 use Rattle.limits.specs.Refusals.{number, value}
 use Rattle.reporter_spec.specs.Program.{endDigits, valueDigits, refusalLine}
-use Rattle.reporter.proofs.laws.LineParts.{overwrite-length, line-put}
-use Rattle.reporter.proofs.laws.OutputRoom.{length-refusal}
-use Rattle.reporter.proofs.lines.write_refusal.Statement.{statement}
-use Rattle.reporter.proofs.lines.write_refusal.Tie as tie
+use Rattle.report_lines.proofs.laws.LineParts.{overwrite-length, line-put}
+use Rattle.report_lines.proofs.laws.LineLengths.{length-refusal}
+use Rattle.report_lines.proofs.lines.write_refusal.Statement.{statement}
+use Rattle.report_lines.proofs.lines.write_refusal.Tie as tie
 
 returns : tie.Need-returns
 unfolding refusalLine

@@ -1,15 +1,15 @@
--- `reporter::lines::write_run` meets its contract: the digits of the end, of the replays and of the visits, and the line feed are the line.
+-- `report_lines::lines::write_run` meets its contract: the digits of the end, of the replays and of the visits, and the line feed are the line.
 -- Assumes nothing.
 use borrow.Author.Needs.{needs}
 use native.Mathlib.Omega.{arith}
 use mathlib.Core.Path.{sym, ap, _∙_}
 use lib.ListN.{length}
 use Rattle.reporter_spec.specs.Program.{endDigits, valueDigits}
-use Rattle.reporter.specs.Reporting.{runLine}
-use Rattle.reporter.proofs.laws.LineParts.{overwrite-length, line-put}
-use Rattle.reporter.proofs.laws.OutputRoom.{length-run}
-use Rattle.reporter.proofs.lines.write_run.Statement.{statement}
-use Rattle.reporter.proofs.lines.write_run.Tie as tie
+use Rattle.report_lines.specs.ProgramLines.{runLine}
+use Rattle.report_lines.proofs.laws.LineParts.{overwrite-length, line-put}
+use Rattle.report_lines.proofs.laws.LineLengths.{length-run}
+use Rattle.report_lines.proofs.lines.write_run.Statement.{statement}
+use Rattle.report_lines.proofs.lines.write_run.Tie as tie
 
 returns : tie.Need-returns
 unfolding runLine

@@ -6,7 +6,7 @@ ghost use lib.ListN.{length};
 ghost use Rattle.foundation.specs.Buffers.{overwrite};
 ghost use Rattle.writer.specs.Writing.{lineBytes, listText};
 ghost use Rattle.reporter_spec.specs.Program.{refusalLine, refusalBytes, resultBytes};
-ghost use Rattle.reporter.specs.Reporting.{runLine};
+ghost use Rattle.report_lines.specs.ProgramLines.{runLine};
 use crate::END_DIGITS;
 use crate::RUN_BYTES;
 use crate::RUN_DIGITS;
