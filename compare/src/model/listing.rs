@@ -16,6 +16,13 @@ const MOST_FOUND: usize = 4096;
 const MOST_REJECTED: usize = 1024;
 const BUDGET: u32 = 1_000_000;
 
+/// A run and, if it completed, what the reduction of its list answered.
+#[derive(Clone, Copy, Debug, PartialEq, Eq)]
+pub struct Listing {
+    pub run: Run,
+    pub reduced: Option<Result<usize, Refusal>>,
+}
+
 /// Writes the lines of a list into a buffer of just their length.
 pub fn write_lines(words: &[u32], text: &mut [u8]) {
     for (line, &word) in text.chunks_exact_mut(PLACE_BYTES).zip(words) {

@@ -12,7 +12,7 @@ mod search;
 mod settings;
 
 pub use judging::{Balances, Judgement, Verdict};
-pub use listing::{program_text, MOST_INPUT, MOST_OUTPUT, PLACE_BYTES};
+pub use listing::{program_text, Listing, MOST_INPUT, MOST_OUTPUT, PLACE_BYTES};
 pub use log::{Frame, Log, LogSize, MOST_EVENTS, MOST_FRAMES};
 pub use place::Place;
 pub use refusal::Refusal;
@@ -71,6 +71,21 @@ pub fn reduce(words: &[u32], kept: &mut [u32]) -> Result<usize, Refusal> {
     let irredundant = reduction::irredundant(words);
     kept[..irredundant.len()].copy_from_slice(&irredundant);
     Ok(irredundant.len())
+}
+
+/// Searches the fitting candidates and, after a completed run, reduces what was found.
+pub fn list(
+    settings: Settings,
+    text: &[u8],
+    budget: u32,
+    rejected: &mut [u64],
+    found: &mut [u32],
+    kept: &mut [u32],
+) -> Result<Listing, Refusal> {
+    let run = search(settings, text, budget, rejected, found)?;
+    let complete = run.end == End::Complete;
+    let reduced = complete.then(|| reduce(&found[..run.found], kept));
+    Ok(Listing { run, reduced })
 }
 
 /// Writes the words as lines.

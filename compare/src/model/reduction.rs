@@ -1,5 +1,7 @@
 //! The places of a list that are no union of others of it.
 
+use std::collections::HashSet;
+
 /// The words of `words` that are not redundant, in order.
 pub fn irredundant(words: &[u32]) -> Vec<u32> {
     let mut distinct = words.to_vec();
@@ -20,23 +22,31 @@ fn is_redundant(word: u32, distinct: &[u32]) -> bool {
         .copied()
         .filter(|&part| part != word && part & !word == 0)
         .collect();
-    covers(word, &parts)
+    covers(word, &parts, &mut HashSet::new())
 }
 
-/// Whether some of `parts`, all within `open`, cover `open` without sharing a bit.
-fn covers(open: u32, parts: &[u32]) -> bool {
+/// Whether some of `parts`, which are those within `open`, cover `open` without sharing a bit.
+/// What was found to have no cover is remembered, since many choices leave the same bits open.
+fn covers(open: u32, parts: &[u32], uncoverable: &mut HashSet<u32>) -> bool {
     if open == 0 {
         return true;
     }
+    if uncoverable.contains(&open) {
+        return false;
+    }
     let bit = scarcest_bit(open, parts);
-    parts.iter().filter(|&&part| part & bit != 0).any(|&part| {
+    let covered = parts.iter().filter(|&&part| part & bit != 0).any(|&part| {
         let rest: Vec<u32> = parts
             .iter()
             .copied()
             .filter(|&other| other & part == 0)
             .collect();
-        covers(open & !part, &rest)
-    })
+        covers(open & !part, &rest, uncoverable)
+    });
+    if !covered {
+        uncoverable.insert(open);
+    }
+    covered
 }
 
 /// The bit of `open` that the fewest parts have.

@@ -1,0 +1,11 @@
+-- Places in the table.
+-- Assumes nothing.
+use mathlib.Core.List.{List}
+use Prim.Native.Nat.{ℕ}
+use Rattle.cases.specs.declared.logs.Sets.{Sets}
+use Rattle.cases.specs.Fields.{partBefore, partAfter}
+use Rattle.cases.specs.Numbers.{numberOf}
+
+-- the hexadecimal numbers before and after a slash (47)
+unfoldable pub setsIn : List ℕ → Sets
+setsIn place = record { inputs = numberOf 16 (partBefore 47 place); outputs = numberOf 16 (partAfter 47 place) }

@@ -1,0 +1,119 @@
+// The calls that answer numbers alone: checking a log, replaying its first trace, judging a place.
+ghost use mathlib.Core.Path.{_≡_};
+ghost use Rattle.cases.specs.Places.{setsIn};
+use crate::fields::after;
+use crate::fields::before;
+use crate::fields::word;
+use crate::numbers::argument;
+use crate::numbers::number;
+use crate::output::begin_line;
+use crate::output::end_line;
+use crate::output::field;
+use crate::output::label;
+use crate::output::not_a_case;
+use crate::output::refusal;
+use crate::output::signed_field;
+use event_log::check_log;
+use event_log_spec::Checked;
+use places::Place;
+use replay::judge_place;
+use replay::replay_first_trace;
+use replay_spec::CaseCounts;
+use replay_spec::Judged;
+use replay_spec::Replayed;
+use replay_spec::Verdict;
+
+// check A text
+pub fn check(line: &[u8], text: &[u8]) {
+    let activities = argument(line, 1);
+    if 255 < activities {
+        not_a_case();
+        return;
+    }
+    match check_log(activities as u8, text) {
+        Checked::Accepted { frames, cases } => {
+            begin_line();
+            field(b"frames", frames as u64);
+            field(b"cases", cases);
+            end_line();
+        }
+        Checked::Refused(why) => refusal(why),
+    }
+}
+
+// The numbers of both sets of a place, as the table writes it.
+struct Sets {
+    inputs: u64,
+    outputs: u64,
+}
+
+fn sets_in(place: &[u8]) -> Sets
+    ensures { λ r. ⌜ r ≡ setsIn (now (place .entry)) ⌝ }
+{
+    Sets {
+        inputs: number(before(place, b'/'), 16),
+        outputs: number(after(place, b'/'), 16),
+    }
+}
+
+// replay A place text
+pub fn replay(line: &[u8], text: &[u8]) {
+    let activities = argument(line, 1);
+    let sets = sets_in(word(line, 2));
+    let inputs = sets.inputs;
+    let outputs = sets.outputs;
+    if 255 < activities || 65535 < inputs || 65535 < outputs {
+        not_a_case();
+        return;
+    }
+    let place = Place {
+        inputs: inputs as u16,
+        outputs: outputs as u16,
+    };
+    match replay_first_trace(activities as u8, text, place) {
+        Replayed::Balances { least, last } => {
+            begin_line();
+            signed_field(b"least", least);
+            signed_field(b"last", last);
+            end_line();
+        }
+        Replayed::Refused(why) => refusal(why),
+    }
+}
+
+// judge A T place text
+pub fn judge(line: &[u8], text: &[u8]) {
+    let activities = argument(line, 1);
+    let threshold = argument(line, 2);
+    let sets = sets_in(word(line, 3));
+    let inputs = sets.inputs;
+    let outputs = sets.outputs;
+    if 255 < activities || 65535 < threshold || 65535 < inputs || 65535 < outputs {
+        not_a_case();
+        return;
+    }
+    let place = Place {
+        inputs: inputs as u16,
+        outputs: outputs as u16,
+    };
+    match judge_place(activities as u8, threshold as u16, text, place) {
+        Judged::Counted { counts, verdict } => judgement(counts, verdict),
+        Judged::Refused(why) => refusal(why),
+    }
+}
+
+fn judgement(counts: CaseCounts, verdict: Verdict) {
+    begin_line();
+    field(b"fitting", counts.fitting);
+    field(b"underfed", counts.underfed);
+    field(b"overfed", counts.overfed);
+    field(b"both", counts.both);
+    label(b"verdict");
+    match verdict {
+        Verdict::Fitting => label(b"fitting"),
+        Verdict::Underfed => label(b"underfed"),
+        Verdict::Overfed => label(b"overfed"),
+        Verdict::Both => label(b"both"),
+    }
+    end_line();
+}

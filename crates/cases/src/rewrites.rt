@@ -1,0 +1,84 @@
+// The calls that write a list again without its redundant places, or as text, and the one that does all of placelist.
+use crate::fields::rest;
+use crate::lists::unfold;
+use crate::numbers::argument;
+use crate::output::field_line;
+use crate::output::list_line;
+use crate::output::not_a_case;
+use crate::output::refusal;
+use crate::output::text_line;
+use reduction::reduce;
+use reduction_spec::Reduced;
+use reporter::report_places;
+use writer::Written;
+use writer::write_places;
+
+// What a reduction answers.
+pub fn reduced(answer: Reduced) {
+    match answer {
+        Reduced::Kept(count) => field_line(b"kept", count as u64),
+        Reduced::Refused(why) => refusal(why),
+    }
+}
+
+fn reduced_lines(answer: Reduced, kept: &[u32; 4160]) {
+    reduced(answer);
+    list_line(b"reduced", kept);
+}
+
+// reduce reduced list
+pub fn reduce_list(line: &[u8]) {
+    let mut list = [0u32; 4160];
+    let count = unfold(rest(line, 2), &mut list);
+    let room = argument(line, 1);
+    if 4160 <= count || 4160 < room {
+        not_a_case();
+        return;
+    }
+    let lent = room as usize;
+    let mut kept = [0xEEEEu32; 4160];
+    let answer = reduce(&list[0..count], &mut kept[0..lent]);
+    reduced_lines(answer, &kept);
+}
+
+// What a call that writes a text answers, and the text.
+fn written(answer: Written, text: &[u8; 36900]) {
+    match answer {
+        Written::Bytes(count) => {
+            field_line(b"bytes", count as u64);
+            text_line(text, count);
+        }
+        Written::Refused(why) => {
+            refusal(why);
+            text_line(text, 0);
+        }
+    }
+}
+
+// write text list
+pub fn write(line: &[u8]) {
+    let mut list = [0u32; 4160];
+    let count = unfold(rest(line, 2), &mut list);
+    let room = argument(line, 1);
+    if 4160 <= count || 36900 < room {
+        not_a_case();
+        return;
+    }
+    let lent = room as usize;
+    let mut text = [b'~'; 36900];
+    let answer = write_places(&list[0..count], &mut text[0..lent]);
+    written(answer, &text);
+}
+
+// report text text
+pub fn report(line: &[u8], input: &[u8]) {
+    let room = argument(line, 1);
+    if 36900 < room {
+        not_a_case();
+        return;
+    }
+    let lent = room as usize;
+    let mut output = [b'~'; 36900];
+    let answer = report_places(input, &mut output[0..lent]);
+    written(answer, &output);
+}
