@@ -4,11 +4,11 @@ ghost use lib.IntN.{natAbs};
 use crate::lists::widen;
 use crate::runs::equal_bytes;
 use crate::runs::run_length;
+use hex_digits::hex::write_hex;
 use libc::STDOUT_FILENO;
 use limits::Refusal;
 use limits::number_of;
 use limits::value_of;
-use writer::hex::write_hex;
 
 // The most words of a list.
 const MOST_WORDS: usize = 4160;
