@@ -17,7 +17,7 @@ use Rattle.limits.specs.Settings.{mostActivities}
 use Rattle.places.specs.declared.Place.{Place}
 use Rattle.places.specs.Places.{word, placeOf}
 use Rattle.places.specs.Order.{PlaceBefore}
-use Rattle.candidate_order.proofs.laws.CandidateOrder.{candidate-under}
+use Rattle.candidate_order_spec.proofs.laws.CandidateOrder.{candidate-under}
 use Rattle.discovery_spec.specs.TwoRuns.{fittingCandidates, AllFitting}
 use Rattle.reduction_spec.specs.Unions.{UnionOf, isUnion}
 use Rattle.reduction_spec.specs.Reduction.{redundant, reducedWords}

@@ -10,7 +10,7 @@ use borrow.Author.Tests.{not-true, not-false}
 use lib.Dec.{lit≤}
 use Rattle.limits.specs.Settings.{settingsInRange}
 use Rattle.limits.proofs.laws.SettingsRanges.{in-range}
-use Rattle.candidate_order.proofs.laws.Succession.{first-kind}
+use Rattle.candidate_order_spec.proofs.laws.Succession.{first-kind}
 use Rattle.event_log.proofs.laws.FrameIndex.{stored-room, stored-index}
 use Rattle.discovery_spec.specs.Discovery.{runRefusal}
 use Rattle.discovery.proofs.laws.CallAnswers.{log-known, searchable, all-countable, contract, refused-answers, run-answers}

@@ -15,8 +15,8 @@ use Rattle.limits.proofs.laws.SettingsRanges.{InRange}
 use Rattle.places.specs.Places.{place}
 use Rattle.places.specs.Candidates.{candidates, sets}
 use Rattle.places.specs.Succession.{candidatesFrom}
-use Rattle.candidate_order.proofs.laws.CandidateOrder.{fewer-candidates}
-use Rattle.candidate_order.proofs.laws.Succession.{from-first}
+use Rattle.candidate_order_spec.proofs.laws.CandidateOrder.{fewer-candidates}
+use Rattle.candidate_order_spec.proofs.laws.Succession.{from-first}
 use Rattle.event_log_spec.specs.Frames.{WrittenLog}
 use Rattle.event_log_spec.specs.Lines.{framesOf}
 use Rattle.event_log_spec.proofs.laws.WiderBound.{log-wider}

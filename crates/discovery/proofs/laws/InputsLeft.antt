@@ -17,7 +17,7 @@ use Rattle.places.specs.declared.Place.{Place}
 use Rattle.places.specs.Places.{place}
 use Rattle.places.specs.Candidates.{candidateSet, sets, extends, descends}
 use Rattle.places.specs.Succession.{from, setAfter, setPast, withOutputs}
-use Rattle.candidate_order.proofs.laws.Succession.{from-nothing, after-from, past-from, after-kind, past-kind}
+use Rattle.candidate_order_spec.proofs.laws.Succession.{from-nothing, after-from, past-from, after-kind, past-kind}
 use Rattle.replay_spec.specs.declared.Verdict.{Verdict}
 use Rattle.discovery_spec.specs.declared.Run.{Run}
 use Rattle.discovery_spec.specs.Search.{Progress, going, isPruned, visit, step, stateOf}

@@ -18,9 +18,9 @@ use Rattle.places.specs.declared.Place.{Place}
 use Rattle.places.specs.Places.{place}
 use Rattle.places.specs.Candidates.{candidateSet, sets, descends}
 use Rattle.places.specs.Succession.{from, setAfter, withOutputs, rows}
-use Rattle.candidate_order.proofs.laws.From.{Apart, from-ends}
-use Rattle.candidate_order.proofs.laws.SetOrder.{sets-distinct}
-use Rattle.candidate_order.proofs.laws.Succession.{from-nothing, from-first, first-kind, after-from, after-kind}
+use Rattle.candidate_order_spec.proofs.laws.From.{Apart, from-ends}
+use Rattle.candidate_order_spec.proofs.laws.SetOrder.{sets-distinct}
+use Rattle.candidate_order_spec.proofs.laws.Succession.{from-nothing, from-first, first-kind, after-from, after-kind}
 use Rattle.discovery_spec.specs.declared.Run.{Run}
 use Rattle.discovery_spec.specs.Search.{going, stateOf}
 use Rattle.discovery_spec.specs.Discovery.{capacityOf}

@@ -15,7 +15,7 @@ use Rattle.foundation.proofs.laws.Ordered.{ordered-keep}
 use Rattle.limits.specs.declared.Settings.{Settings}
 use Rattle.limits.specs.Settings.{mostActivities}
 use Rattle.places.specs.Candidates.{candidates}
-use Rattle.candidate_order.proofs.laws.CandidateOrder.{candidate-listed, candidates-ascending, candidates-distinct, candidates-bounded}
+use Rattle.candidate_order_spec.proofs.laws.CandidateOrder.{candidate-listed, candidates-ascending, candidates-distinct, candidates-bounded}
 use Rattle.places.proofs.laws.Words.{Storable, words-back}
 use Rattle.event_log_spec.specs.Frames.{Frame, WrittenLog}
 use Rattle.event_log_spec.specs.Lines.{framesOf}

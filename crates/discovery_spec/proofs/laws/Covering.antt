@@ -12,7 +12,7 @@ use Rattle.foundation.proofs.laws.Any.{any-imply}
 use Rattle.foundation.proofs.laws.Booleans.{by-test, or-true-either}
 use Rattle.places.specs.declared.Place.{Place}
 use Rattle.places.specs.Candidates.{descends}
-use Rattle.candidate_order.proofs.laws.Descendants.{descends-trans}
+use Rattle.candidate_order_spec.proofs.laws.Descendants.{descends-trans}
 use Rattle.discovery_spec.specs.Rejected.{rulesUnderfed, ruledOverfed, ruled}
 use Rattle.discovery_spec.proofs.laws.Rulings.{underfed-kept, overfed-kept}
 use Rattle.discovery_spec.proofs.laws.Outcomes.{prunedAfter}

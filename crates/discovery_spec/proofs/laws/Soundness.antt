@@ -11,7 +11,7 @@ use Rattle.foundation.proofs.laws.Booleans.{by-test, or-true-either, impossible
 use Rattle.places.specs.declared.Place.{Place}
 use Rattle.places.specs.Places.{lighter}
 use Rattle.places.specs.Candidates.{descends}
-use Rattle.candidate_order.proofs.laws.Descendants.{descends-lighter}
+use Rattle.candidate_order_spec.proofs.laws.Descendants.{descends-lighter}
 use Rattle.places.proofs.laws.Words.{Storable}
 use Rattle.replay_spec.specs.declared.Verdict.{Verdict}
 use Rattle.replay_spec.specs.declared.Verdict.the-variants.{Fitting, Underfed, Overfed, Both}

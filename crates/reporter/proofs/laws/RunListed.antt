@@ -20,7 +20,7 @@ use Rattle.foundation.proofs.laws.Members.{members-each}
 use Rattle.limits.specs.declared.Refusal.{Refusal}
 use Rattle.limits.specs.declared.Settings.{Settings}
 use Rattle.places.specs.Places.{placeOf}
-use Rattle.candidate_order.proofs.laws.CandidateOrder.{candidate-under}
+use Rattle.candidate_order_spec.proofs.laws.CandidateOrder.{candidate-under}
 use Rattle.discovery_spec.specs.declared.Run.{Run}
 use Rattle.discovery_spec.specs.Search.{Capacity, Progress, endOf, stateOf}
 use Rattle.discovery_spec.specs.Discovery.{run, summary, runRefusal, discovered, capacityOf, foundAfter}

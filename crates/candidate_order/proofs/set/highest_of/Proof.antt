@@ -2,7 +2,7 @@
 -- Assumes nothing.
 use native.Mathlib.Omega.{arith}
 use lib.Count.{leading-top}
-use Rattle.candidate_order.proofs.laws.Highest.{highest, highest-code}
+use Rattle.candidate_order_spec.proofs.laws.Highest.{highest, highest-code}
 use Rattle.candidate_order.proofs.set.highest_of.Statement.{statement}
 use Rattle.candidate_order.proofs.set.highest_of.Tie as tie
 

@@ -7,9 +7,9 @@ use mathlib.Core.Path.{sym, ap, _∙_}
 use mathlib.Core.Logic.{_⊎_, inl, inr, ⊎-elim}
 use borrow.Author.Needs.{needs}
 use Rattle.places.specs.Sets.{size}
-use Rattle.candidate_order.proofs.laws.Highest.{bit-value, added-fits}
-use Rattle.candidate_order.proofs.laws.NextSet.{after-added, after-past}
-use Rattle.candidate_order.proofs.laws.Succession.{candidate-bounds, after-by, past-by}
+use Rattle.candidate_order_spec.proofs.laws.Highest.{bit-value, added-fits}
+use Rattle.candidate_order_spec.proofs.laws.NextSet.{after-added, after-past}
+use Rattle.candidate_order_spec.proofs.laws.Succession.{candidate-bounds, after-by, past-by}
 use Rattle.candidate_order.proofs.set.set_after.Statement.{statement}
 use Rattle.candidate_order.proofs.set.set_after.Tie as tie
 

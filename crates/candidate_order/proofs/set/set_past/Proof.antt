@@ -6,9 +6,9 @@ use native.Mathlib.Nat.{pow-suc}
 use mathlib.Core.Path.{sym, _∙_}
 use lib.Pow.{pow-mono}
 use borrow.Author.Needs.{needs}
-use Rattle.candidate_order.proofs.laws.Highest.{bit-value, added-fits}
-use Rattle.candidate_order.proofs.laws.NextSet.{past-moved, past-none, past-fallen}
-use Rattle.candidate_order.proofs.laws.Succession.{past-by}
+use Rattle.candidate_order_spec.proofs.laws.Highest.{bit-value, added-fits}
+use Rattle.candidate_order_spec.proofs.laws.NextSet.{past-moved, past-none, past-fallen}
+use Rattle.candidate_order_spec.proofs.laws.Succession.{past-by}
 use Rattle.candidate_order.proofs.set.set_past.Statement.{statement}
 use Rattle.candidate_order.proofs.set.set_past.Tie as tie
 

@@ -1,7 +1,7 @@
 -- `discovery::search::next_inputs` meets its contract: one of the two steps through the sets is taken.
 -- Assumes nothing.
 use borrow.Author.Needs.{needs}
-use Rattle.candidate_order.proofs.laws.Succession.{candidate-bounds}
+use Rattle.candidate_order_spec.proofs.laws.Succession.{candidate-bounds}
 use Rattle.discovery.proofs.search.next_inputs.Statement.{statement}
 use Rattle.discovery.proofs.search.next_inputs.Tie as tie
 

@@ -16,7 +16,7 @@ use Rattle.foundation.proofs.laws.Booleans.{by-test, impossible}
 use Rattle.foundation.proofs.laws.Each.{all-kept, each-upTo}
 use Rattle.limits.specs.Settings.{mostActivities}
 use Rattle.places.specs.Sets.{has, member, codes, size, within}
-use Rattle.candidate_order.proofs.laws.Doubling.{size-raised, size-raised-zero}
+use Rattle.candidate_order_spec.proofs.laws.Doubling.{size-raised, size-raised-zero}
 use Rattle.places.proofs.laws.Lighter.{within-has}
 use Rattle.places.proofs.laws.SetBits.{has-and, same-codes}
 

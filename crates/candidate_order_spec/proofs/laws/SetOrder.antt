@@ -15,8 +15,8 @@ use Rattle.places.specs.Sets.{codes, size}
 use Rattle.places.specs.Order.{CodesBefore, ends, lower, same, SetBefore}
 use Rattle.places.specs.Candidates.{raised, raisedWithZero, sets}
 use Rattle.places.proofs.laws.StrictOrder.{set-irreflexive}
-use Rattle.candidate_order.proofs.laws.Doubling.{codes-raised, codes-raised-zero}
-use Rattle.candidate_order.proofs.laws.SetList.{below-last, size-positive, Listed, sets-listed}
+use Rattle.candidate_order_spec.proofs.laws.Doubling.{codes-raised, codes-raised-zero}
+use Rattle.candidate_order_spec.proofs.laws.SetList.{below-last, size-positive, Listed, sets-listed}
 
 -- each code one more: the order stays
 codes-before-raised : {s t : List ℕ} → CodesBefore s t → CodesBefore (map suc s) (map suc t)

@@ -16,11 +16,11 @@ use Rattle.foundation.proofs.laws.Members.{each-member}
 use Rattle.limits.specs.Settings.{mostActivities}
 use Rattle.places.specs.Candidates.{candidateSet, sets, extends}
 use Rattle.places.specs.Succession.{from, firstSet, setAfter, setPast}
-use Rattle.candidate_order.proofs.laws.From.{from-ends, from-in-second, from-end}
-use Rattle.candidate_order.proofs.laws.NextSet.{pastBy, afterBy}
-use Rattle.candidate_order.proofs.laws.Position.{Position, position}
-use Rattle.candidate_order.proofs.laws.SetList.{Listed, sets-listed, set-listed}
-use Rattle.candidate_order.proofs.laws.SetOrder.{sets-distinct}
+use Rattle.candidate_order_spec.proofs.laws.From.{from-ends, from-in-second, from-end}
+use Rattle.candidate_order_spec.proofs.laws.NextSet.{pastBy, afterBy}
+use Rattle.candidate_order_spec.proofs.laws.Position.{Position, position}
+use Rattle.candidate_order_spec.proofs.laws.SetList.{Listed, sets-listed, set-listed}
+use Rattle.candidate_order_spec.proofs.laws.SetOrder.{sets-distinct}
 
 -- from no set on there is nothing, and from the set of code 0 alone on the whole list
 pub from-nothing : (n m : ℕ) → from 0 (sets n m) ≡ []

@@ -14,10 +14,10 @@ use Rattle.foundation.proofs.laws.Members.{each-member}
 use Rattle.limits.specs.Settings.{mostActivities}
 use Rattle.places.specs.Candidates.{raised, raisedWithZero, sets, extends}
 use Rattle.places.specs.Succession.{from, firstSet}
-use Rattle.candidate_order.proofs.laws.Extending.{extends-raised, extends-raised-zero, extends-mixed, extends-first}
-use Rattle.candidate_order.proofs.laws.From.{from-later, each-from, from-in-first, from-in-second, from-map}
-use Rattle.candidate_order.proofs.laws.NextSet.{pastBy, afterBy, raisedOrOne, raised-some, past-last, past-one, after-last, after-one, after-both, past-raised, past-raised-zero, after-raised, after-raised-zero}
-use Rattle.candidate_order.proofs.laws.SetList.{below-last, size-positive, Listed, sets-listed}
+use Rattle.candidate_order_spec.proofs.laws.Extending.{extends-raised, extends-raised-zero, extends-mixed, extends-first}
+use Rattle.candidate_order_spec.proofs.laws.From.{from-later, each-from, from-in-first, from-in-second, from-map}
+use Rattle.candidate_order_spec.proofs.laws.NextSet.{pastBy, afterBy, raisedOrOne, raised-some, past-last, past-one, after-last, after-one, after-both, past-raised, past-raised-zero, after-raised, after-raised-zero}
+use Rattle.candidate_order_spec.proofs.laws.SetList.{below-last, size-positive, Listed, sets-listed}
 
 -- where s stands in the list for n and m: before the sets that extend it, and those before all others that come later
 pub record Position (n m s : ℕ) : Type 0 where

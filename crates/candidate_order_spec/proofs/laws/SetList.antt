@@ -19,7 +19,7 @@ use Rattle.limits.specs.Settings.{mostActivities}
 use Rattle.places.specs.Sets.{codes, size}
 use Rattle.places.specs.Places.{below}
 use Rattle.places.specs.Candidates.{candidateSet, raised, raisedWithZero, sets}
-use Rattle.candidate_order.proofs.laws.Doubling.{size-raised, size-raised-zero}
+use Rattle.candidate_order_spec.proofs.laws.Doubling.{size-raised, size-raised-zero}
 
 -- a set is its half raised, without code 0 or with it
 by-half : (P : ℕ → Type 0) → ((h : ℕ) → P (raised h)) → ((h : ℕ) → P (raisedWithZero h)) → (s : ℕ) → P s

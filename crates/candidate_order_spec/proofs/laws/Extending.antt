@@ -15,7 +15,7 @@ use Rattle.foundation.proofs.laws.Lists.{keep-map, all-map}
 use Rattle.foundation.proofs.laws.Each.{each-always, each-all, keep-every}
 use Rattle.places.specs.Sets.{member, codes, size, within}
 use Rattle.places.specs.Candidates.{added, extends}
-use Rattle.candidate_order.proofs.laws.Doubling.{has-raised, has-raised-zero, raised-without-zero, raised-with-zero, codes-raised, codes-raised-zero}
+use Rattle.candidate_order_spec.proofs.laws.Doubling.{has-raised, has-raised-zero, raised-without-zero, raised-with-zero, codes-raised, codes-raised-zero}
 
 member-raised : (s a : ℕ) → member (2 * s) (suc a) ≡ member s a
 member-raised s a = ap (λ (h : ℕ). eqb h 1) (has-raised s a)

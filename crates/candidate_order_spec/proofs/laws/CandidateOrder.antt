@@ -24,10 +24,10 @@ use Rattle.places.specs.Sets.{size}
 use Rattle.places.specs.Places.{place, through, below, placeUnder}
 use Rattle.places.specs.Order.{PlaceBefore}
 use Rattle.places.specs.Candidates.{candidateSet, candidate, sets, candidates}
-use Rattle.candidate_order.proofs.laws.SetList.{Listed, sets-listed, set-listed, fewer-sets}
+use Rattle.candidate_order_spec.proofs.laws.SetList.{Listed, sets-listed, set-listed, fewer-sets}
 use Rattle.places.proofs.laws.Bounds.{under-wider}
 use Rattle.places.proofs.laws.StrictOrder.{place-irreflexive}
-use Rattle.candidate_order.proofs.laws.SetOrder.{sets-ascending}
+use Rattle.candidate_order_spec.proofs.laws.SetOrder.{sets-ascending}
 
 -- three tests of each of two things, taken in turn or thing by thing
 by-thing : (a b c d e f : Bool) → a && b && c && d && e && f ≡ (a && c && e && (b && d && f))
