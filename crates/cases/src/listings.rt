@@ -7,8 +7,9 @@ use crate::output::begin_line;
 use crate::output::cache_line;
 use crate::output::end_line;
 use crate::output::field;
-use crate::output::list_line;
+use crate::output::found_line;
 use crate::output::not_a_case;
+use crate::output::reduced_line;
 use crate::output::refusal;
 use crate::rewrites::reduced;
 use assurance::list_twice;
@@ -56,13 +57,17 @@ fn run_line(run: Run) {
     end_line();
 }
 
-// The answer and the buffers of a search.
-fn search_lines(answer: Discovered, rejected: &[u64; 640], found: &[u32; 2240]) {
+fn discovered(answer: Discovered) {
     match answer {
         Discovered::Ran(run) => run_line(run),
         Discovered::Refused(why) => refusal(why),
     }
-    list_line(b"list", found);
+}
+
+// The answer and the buffers of a search.
+fn search_lines(answer: Discovered, rejected: &[u64; 640], found: &[u32; 2240]) {
+    discovered(answer);
+    found_line(found);
     cache_line(rejected);
 }
 
@@ -101,9 +106,9 @@ fn listed(answer: Listing) {
 // The answer and the buffers of one listing.
 fn listing_lines(answer: Listing, rejected: &[u64; 640], found: &[u32; 320], kept: &[u32; 320]) {
     listed(answer);
-    list_line(b"list", found);
+    found_line(found);
     cache_line(rejected);
-    list_line(b"reduced", kept);
+    reduced_line(kept);
 }
 
 // list A mi mo T cache list reduced budget text

@@ -23,6 +23,13 @@ use replay_spec::Judged;
 use replay_spec::Replayed;
 use replay_spec::Verdict;
 
+fn size_line(frames: usize, cases: u64) {
+    begin_line();
+    field(b"frames", frames as u64);
+    field(b"cases", cases);
+    end_line();
+}
+
 // check A text
 pub fn check(line: &[u8], text: &[u8]) {
     let activities = argument(line, 1);
@@ -31,12 +38,7 @@ pub fn check(line: &[u8], text: &[u8]) {
         return;
     }
     match check_log(activities as u8, text) {
-        Checked::Accepted { frames, cases } => {
-            begin_line();
-            field(b"frames", frames as u64);
-            field(b"cases", cases);
-            end_line();
-        }
+        Checked::Accepted { frames, cases } => size_line(frames, cases),
         Checked::Refused(why) => refusal(why),
     }
 }
@@ -56,6 +58,13 @@ fn sets_in(place: &[u8]) -> Sets
     }
 }
 
+fn balance_line(least: i16, last: i16) {
+    begin_line();
+    signed_field(b"least", least);
+    signed_field(b"last", last);
+    end_line();
+}
+
 // replay A place text
 pub fn replay(line: &[u8], text: &[u8]) {
     let activities = argument(line, 1);
@@ -71,12 +80,7 @@ pub fn replay(line: &[u8], text: &[u8]) {
         outputs: outputs as u16,
     };
     match replay_first_trace(activities as u8, text, place) {
-        Replayed::Balances { least, last } => {
-            begin_line();
-            signed_field(b"least", least);
-            signed_field(b"last", last);
-            end_line();
-        }
+        Replayed::Balances { least, last } => balance_line(least, last),
         Replayed::Refused(why) => refusal(why),
     }
 }
@@ -97,23 +101,31 @@ pub fn judge(line: &[u8], text: &[u8]) {
         outputs: outputs as u16,
     };
     match judge_place(activities as u8, threshold as u16, text, place) {
-        Judged::Counted { counts, verdict } => judgement(counts, verdict),
+        Judged::Counted { counts, verdict } => judgement_line(counts, verdict),
         Judged::Refused(why) => refusal(why),
     }
 }
 
-fn judgement(counts: CaseCounts, verdict: Verdict) {
-    begin_line();
+fn put_counts(counts: CaseCounts) {
     field(b"fitting", counts.fitting);
     field(b"underfed", counts.underfed);
     field(b"overfed", counts.overfed);
     field(b"both", counts.both);
-    label(b"verdict");
+}
+
+fn put_verdict(verdict: Verdict) {
     match verdict {
         Verdict::Fitting => label(b"fitting"),
         Verdict::Underfed => label(b"underfed"),
         Verdict::Overfed => label(b"overfed"),
         Verdict::Both => label(b"both"),
     }
+}
+
+fn judgement_line(counts: CaseCounts, verdict: Verdict) {
+    begin_line();
+    put_counts(counts);
+    label(b"verdict");
+    put_verdict(verdict);
     end_line();
 }

@@ -21,9 +21,13 @@ pub fn not_a_case() {
     put(b"  not a case\n");
 }
 
+fn put_blank() {
+    put(b" ");
+}
+
 // The lines of an answer begin with two blanks, of which a field or a name has one.
 pub fn begin_line() {
-    put(b" ");
+    put_blank();
 }
 
 pub fn end_line() {
@@ -32,14 +36,14 @@ pub fn end_line() {
 
 // A name.
 pub fn label(name: &[u8]) {
-    put(b" ");
+    put_blank();
     put(name);
 }
 
 // A name and a number.
 pub fn field(name: &[u8], number: u64) {
     label(name);
-    put(b" ");
+    put_blank();
     io::print_decimal(STDOUT_FILENO, number);
 }
 
@@ -57,7 +61,7 @@ fn magnitude(number: i16) -> u64
 // A name and a number that may be negative.
 pub fn signed_field(name: &[u8], number: i16) {
     label(name);
-    put(b" ");
+    put_blank();
     if number < 0 {
         put(b"-");
     }
@@ -89,7 +93,7 @@ fn put_word(word: u64, digits: usize) {
 
 // How many times what follows stands there.
 fn put_times(count: usize) {
-    put(b" ");
+    put_blank();
     io::print_decimal(STDOUT_FILENO, count as u64);
     put(b"*");
 }
@@ -101,7 +105,7 @@ fn put_equal(count: usize, word: u64, digits: usize) {
 }
 
 fn put_alone(word: u64, digits: usize) {
-    put(b" ");
+    put_blank();
     put_word(word, digits);
 }
 
@@ -141,15 +145,27 @@ pub fn cache_line(words: &[u64]) {
     end_line();
 }
 
-// A line of all words of a list.
-pub fn list_line(name: &[u8], list: &[u32]) {
+// All words of a list.
+fn put_list(list: &[u32]) {
     let mut words = [0u64; MOST_WORDS];
     let count = widen(list, &mut words);
-    begin_line();
-    label(name);
     if count <= MOST_WORDS {
         put_words(&words[0..count], 8);
     }
+}
+
+// A line of all words of a list, or of a reduced one.
+pub fn found_line(list: &[u32]) {
+    begin_line();
+    label(b"list");
+    put_list(list);
+    end_line();
+}
+
+pub fn reduced_line(list: &[u32]) {
+    begin_line();
+    label(b"reduced");
+    put_list(list);
     end_line();
 }
 
@@ -181,16 +197,22 @@ fn put_equal_bytes(bytes: &[u8]) {
     }
 }
 
-// A line of all bytes of a buffer, of which a call says that it wrote so many.
+// All bytes of a buffer, of which a call says that it wrote so many.
+fn put_text(bytes: &[u8], count: usize) {
+    if bytes.len() < count {
+        return;
+    }
+    if 0 < count {
+        put_blank();
+    }
+    put_bytes(&bytes[0..count]);
+    put_equal_bytes(&bytes[count..]);
+}
+
+// A line of them.
 pub fn text_line(bytes: &[u8], count: usize) {
     begin_line();
     label(b"text");
-    if count <= bytes.len() {
-        if 0 < count {
-            put(b" ");
-        }
-        put_bytes(&bytes[0..count]);
-        put_equal_bytes(&bytes[count..]);
-    }
+    put_text(bytes, count);
     end_line();
 }

@@ -3,8 +3,8 @@ use crate::fields::rest;
 use crate::lists::unfold;
 use crate::numbers::argument;
 use crate::output::field_line;
-use crate::output::list_line;
 use crate::output::not_a_case;
+use crate::output::reduced_line;
 use crate::output::refusal;
 use crate::output::text_line;
 use reduction::reduce;
@@ -23,7 +23,7 @@ pub fn reduced(answer: Reduced) {
 
 fn reduced_lines(answer: Reduced, kept: &[u32; 4160]) {
     reduced(answer);
-    list_line(b"reduced", kept);
+    reduced_line(kept);
 }
 
 // reduce reduced list
