@@ -1,4 +1,5 @@
 // Standard input, read to its end.
+ghost use mathlib.Core.Path.{_≡_};
 ghost use lib.ListN.{length};
 ghost use Rattle.placelist.specs.Reading.{Within};
 use libc::STDIN_FILENO;
@@ -10,9 +11,11 @@ pub enum Input {
 }
 
 // Reads standard input into a buffer from its front, until it ends or the buffer is full. A read may give less than there is, so the next goes on behind
-// it. One that fails is no end: a log that was cut there could pass for a whole one.
+// it. One that fails is no end: a log that was cut there could pass for a whole one. Which bytes the buffer then holds is left free: no contract says what
+// was read.
 pub fn read_input(buffer: &mut [u8]) -> Input
-    ensures { λ r. ⌜ Within (length (now (buffer .entry))) r ⌝ }
+    ensures count { λ r. ⌜ Within (length (now (buffer .entry))) r ⌝ }
+    ensures free { λ _. ⌜ length (now (buffer .exit)) ≡ length (now (buffer .entry)) ⌝ }
 {
     let mut count = 0;
     while count < buffer.len() {

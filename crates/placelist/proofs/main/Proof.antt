@@ -13,7 +13,7 @@ use Rattle.placelist.proofs.main.Tie as tie
 read-within : (c : tie.After-known-told) → c .before .count .given .0 .0 ≤ length (c .before .before .before .before .read-input .last .0)
 read-within c =
     let r = c .before .before .before .before .read-input in
-    omega (arith, subst (Within _) (c .before .count .given .1) (r .ensures), r .kept .0)
+    omega (arith, subst (Within _) (c .before .count .given .1) (r .ensures .0), r .kept .0)
 
 pub main-spec : {M : Type 1} → statement M
 main-spec =

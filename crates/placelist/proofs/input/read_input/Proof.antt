@@ -53,7 +53,7 @@ read-input-spec =
     (λ c. omega arith)  -- part-read-end
     (λ c κs. tt)  -- read-requires
     (λ c. read-kept (c .before) ∙ c .before .before .before .before .before .before .loop .inv .0)  -- same-length
-    (λ c. tt)  -- returns
+    (λ c. (tt, read-kept (c .before) ∙ c .before .before .before .before .before .before .loop .inv .0))  -- returns
     (λ c. omega (arith, read-kept (c .before)))  -- sub-count
     (λ c. omega (arith, read-kept (c .before .before)))  -- part-count-start
     (λ c. omega arith)  -- part-count-end
@@ -64,8 +64,10 @@ read-input-spec =
     let r = c .before .before .before .before .before in
     (read-kept r ∙ r .before .before .before .before .before .loop .inv .0, more-within c))  -- loop-again
     (λ c. c .before .loop .inv .0)  -- same-length-2
-    (λ c. omega arith)  -- returns-2
+    (λ c. (omega arith, c .before .loop .inv .0))  -- returns-2
     (λ c.
     let r = c .before .before .before .before .before in
     read-kept r ∙ r .before .before .before .before .before .loop .inv .0)  -- same-length-3
-    (λ c. omega arith))
+    (λ c.
+    let r = c .before .before .before .before .before in
+    (omega arith, read-kept r ∙ r .before .before .before .before .before .loop .inv .0)))
