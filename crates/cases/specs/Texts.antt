@@ -17,7 +17,8 @@ unfoldable pub times : ℕ → List ℕ → List ℕ
 times zero bytes = []
 times (suc n) bytes = bytes ++ times n bytes
 
--- a piece stands for its bytes, and one with a star (42) for those after it, as many times as the number before it says
+-- a piece stands for its bytes, and one with a star (42) for those after it, as many times as the
+-- number before it says
 unfoldable pub pieceMeant : List ℕ → List ℕ
 pieceMeant piece =
     cond (leb (length piece) (length (partBefore 42 piece)))

@@ -18,7 +18,8 @@ fn word_of(digits: &[u8]) -> u64
     number(digits, 16) % NONE
 }
 
-// Puts the words from one to another into a list from an index on, as many as it has room for, and answers the index after them.
+// Puts the words from one to another into a list from an index on, as many as it has room for, and
+// answers the index after them.
 fn append_rising(list: &mut [u32], from: usize, first: u64, last: u64) -> usize
     requires { ⌜ (from ≤ length (now list)) × (last < none) ⌝ }
     ensures { λ r. ⌜ Appended (now (list .entry)) from (between first last) (now (list .exit)) r ⌝ }

@@ -1,4 +1,5 @@
-// The calls that write a list again without its redundant places, or as text, and the one that does all of placelist.
+// The calls that write a list again without its redundant places, or as text, and the one that does
+// all of placelist.
 use crate::fields::rest;
 use crate::lists::unfold;
 use crate::numbers::argument;

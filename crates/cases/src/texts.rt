@@ -26,7 +26,8 @@ fn meant(byte: u8) -> u8
     byte
 }
 
-// Puts what some bytes stand for into a buffer from an index on, as much as it has room for, and answers the index after it.
+// Puts what some bytes stand for into a buffer from an index on, as much as it has room for, and
+// answers the index after it.
 fn append(buffer: &mut [u8], from: usize, bytes: &[u8]) -> usize
     requires { ⌜ from ≤ length (now buffer) ⌝ }
     ensures { λ r. ⌜ Appended (now (buffer .entry)) from (map byteMeant (now (bytes .entry))) (now (buffer .exit)) r ⌝ }

@@ -4,8 +4,7 @@ use Prim.Native.Nat.{ℕ, _+_, _-_, _*_, _≤_, _<_}
 use native.Mathlib.Omega.{arith}
 use native.Mathlib.Numerals.{add-one}
 use mathlib.Core.Path.{_≡_, sym, ap, _∙_}
-use mathlib.Core.Bool.{true, false}
-use mathlib.Core.List.{List, []}
+use mathlib.Core.List.{List}
 use borrow.Author.Tests.{le-leb, lt-leb, ne-eqb}
 use lib.Dec.{leb}
 use lib.ListN.{length, getD, drop, drop-of-length-le}

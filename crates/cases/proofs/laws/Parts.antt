@@ -1,9 +1,9 @@
--- The parts of a text before and after a byte: as the search for the byte finds them, and from one word to the next.
+-- The parts of a text before and after a byte: as the search for the byte finds them, and from one
+-- word to the next.
 -- Assumes nothing.
 use Prim.Native.Nat.{ℕ, suc, _+_, _-_, _≤_, _<_, min}
 use native.Mathlib.Omega.{arith}
 use mathlib.Core.Path.{_≡_, refl, sym, ap, _∙_}
-use mathlib.Core.Bool.{true, false}
 use mathlib.Core.List.{List, [], _∷_}
 use borrow.Author.Tests.{leb-true, leb-false}
 use lib.Dec.{eqb, leb}

@@ -2,8 +2,8 @@
 -- Assumes nothing.
 use Prim.Native.Nat.{ℕ, suc, _+_, _-_, _≤_, _<_}
 use native.Mathlib.Omega.{arith}
-use mathlib.Core.Path.{_≡_, sym, ap, _∙_}
-use mathlib.Core.List.{List, [], _∷_}
+use mathlib.Core.Path.{_≡_, ap}
+use mathlib.Core.List.{[], _∷_}
 use Rattle.cases.specs.WordLists.{rising, between}
 
 pub next-between : (word last : ℕ) → word ≤ last → between word last ≡ word ∷ between (word + 1) last

@@ -1,4 +1,5 @@
--- `cases::calls::run_lines` is safe and ends: a line lies within what is left of the table, and the next begins behind its line feed.
+-- `cases::calls::run_lines` is safe and ends: a line lies within what is left of the table, and the
+-- next begins behind its line feed.
 -- Assumes nothing.
 use Prim.Native.Nat.{ℕ, _-_, _≤_}
 use native.Mathlib.Omega.{arith}

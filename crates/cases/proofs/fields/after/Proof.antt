@@ -1,4 +1,5 @@
--- `cases::fields::after` meets its contract: the part begins behind the byte that the search finds, or at the end.
+-- `cases::fields::after` meets its contract: the part begins behind the byte that the search finds,
+-- or at the end.
 -- Assumes nothing.
 use native.Mathlib.Omega.{arith}
 use borrow.Author.Needs.{needs}

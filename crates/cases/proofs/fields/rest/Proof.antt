@@ -1,5 +1,5 @@
--- `cases::fields::rest` meets its contract. The loop's invariant: what follows the words left to pass from the index on is what
--- follows all of them. The measure is how many are left.
+-- `cases::fields::rest` meets its contract. The loop's invariant: what follows the words left to
+-- pass from the index on is what follows all of them. The measure is how many are left.
 -- Assumes nothing.
 use Prim.Native.Nat.{_≤_}
 use native.Mathlib.Omega.{arith}

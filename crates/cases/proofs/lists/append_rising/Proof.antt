@@ -1,5 +1,6 @@
--- `cases::lists::append_rising` meets its contract. The loop's invariant: what puts the words from the present one on into the list as it is
--- puts all of them into the list as it was. The measure is how many are left.
+-- `cases::lists::append_rising` meets its contract. The loop's invariant: what puts the words from
+-- the present one on into the list as it is puts all of them into the list as it was. The measure
+-- is how many are left.
 -- Assumes nothing.
 use Prim.Native.Nat.{ℕ, _+_, _-_, _≤_}
 use native.Mathlib.Omega.{arith}
@@ -8,7 +9,6 @@ use mathlib.Core.List.{List}
 use borrow.Author.Needs.{needs}
 use lib.ListN.{length, length-set}
 use Rattle.cases.specs.Unfolding.{Appended}
-use Rattle.cases.specs.Numbers.{none}
 use Rattle.cases.specs.WordLists.{between}
 use Rattle.cases.proofs.laws.Appending.{nothing, full, one-more}
 use Rattle.cases.proofs.laws.RisingWords.{next-between, none-between}

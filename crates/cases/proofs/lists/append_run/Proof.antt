@@ -1,4 +1,5 @@
--- `cases::lists::append_run` meets its contract: a word without a dash stands for itself, two with it for all from one to the other.
+-- `cases::lists::append_run` meets its contract: a word without a dash stands for itself, two with
+-- it for all from one to the other.
 -- Assumes nothing.
 use borrow.Author.Needs.{needs}
 use Rattle.cases.proofs.laws.Pieces.{word-within, run-alone, run-between}

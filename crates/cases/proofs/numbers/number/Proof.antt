@@ -1,10 +1,9 @@
--- `cases::numbers::number` meets its contract. The loop's invariant: the value, with the digits from the index on, is the number of all
--- digits. The measure is what is left of the digits.
+-- `cases::numbers::number` meets its contract. The loop's invariant: the value, with the digits
+-- from the index on, is the number of all digits. The measure is what is left of the digits.
 -- Assumes nothing.
 use Prim.Native.Nat.{ℕ, _+_, _-_, _≤_}
 use native.Mathlib.Omega.{arith}
 use mathlib.Core.Path.{_≡_, refl, ap, _∙_}
-use borrow.Author.Needs.{needs}
 use lib.ListN.{length, drop}
 use Rattle.foundation.specs.Lists.{foldl}
 use Rattle.cases.specs.Numbers.{none, longer}

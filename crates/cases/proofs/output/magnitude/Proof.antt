@@ -1,8 +1,9 @@
--- `cases::output::magnitude` meets its contract: of a number below 0, one less than its magnitude is what -1 is above it.
+-- `cases::output::magnitude` meets its contract: of a number below 0, one less than its magnitude
+-- is what -1 is above it.
 -- Assumes nothing.
 use Prim.Native.Nat.{ℕ, suc, _+_, _-_, _≤_, _<_}
 use native.Mathlib.Omega.{arith}
-use mathlib.Core.Path.{_≡_, refl, sym, ap, _∙_}
+use mathlib.Core.Path.{_≡_, ap, _∙_}
 use mathlib.Core.Bool.{true, false}
 use borrow.Author.Needs.{needs, sfits-of}
 use borrow.Author.Tests.{ltb-true, le-ltb}

@@ -1,8 +1,8 @@
--- `cases::output::put_equal_bytes` is safe and ends: equal bytes lie within what is left, and are one at least.
+-- `cases::output::put_equal_bytes` is safe and ends: equal bytes lie within what is left, and are
+-- one at least.
 -- Assumes nothing.
-use Prim.Native.Nat.{ℕ, _+_, _-_, _≤_, _<_}
+use Prim.Native.Nat.{_-_, _≤_}
 use native.Mathlib.Omega.{arith}
-use borrow.Author.Needs.{needs}
 use lib.ListN.{length}
 use Rattle.cases.proofs.laws.RunLengths.{run-at}
 use Rattle.cases.proofs.output.put_equal_bytes.Statement.{statement}

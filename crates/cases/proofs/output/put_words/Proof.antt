@@ -1,4 +1,5 @@
--- `cases::output::put_words` is safe and ends: a run lies within what is left, and has one word at least.
+-- `cases::output::put_words` is safe and ends: a run lies within what is left, and has one word at
+-- least.
 -- Assumes nothing.
 use Prim.Native.Nat.{_-_, _≤_}
 use native.Mathlib.Omega.{arith}

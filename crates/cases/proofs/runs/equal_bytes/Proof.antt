@@ -3,7 +3,6 @@
 use Prim.Native.Nat.{_-_, _≤_}
 use native.Mathlib.Omega.{arith}
 use mathlib.Core.Path.{_∙_}
-use borrow.Author.Needs.{needs}
 use lib.ListN.{length}
 use Rattle.cases.proofs.laws.RunLengths.{no-run, RunTo, first-word, goes-on, stops, ends}
 use Rattle.cases.proofs.runs.equal_bytes.Statement.{statement}

@@ -1,9 +1,8 @@
--- `cases::runs::run_length` meets its contract. The loop's invariant: the words up to the index are a run, and those that continue it make
--- up the whole. The measure is what is left of the words.
+-- `cases::runs::run_length` meets its contract. The loop's invariant: the words up to the index are
+-- a run, and those that continue it make up the whole. The measure is what is left of the words.
 -- Assumes nothing.
 use Prim.Native.Nat.{_-_, _≤_}
 use native.Mathlib.Omega.{arith}
-use mathlib.Core.Path.{_∙_}
 use borrow.Author.Needs.{needs}
 use lib.ListN.{length}
 use Rattle.cases.proofs.laws.RunLengths.{no-run, RunTo, first-word, goes-on, stops, ends}

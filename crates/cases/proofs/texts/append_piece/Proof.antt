@@ -1,4 +1,5 @@
--- `cases::texts::append_piece` meets its contract: a piece without a star stands for its bytes, one with it for those behind it.
+-- `cases::texts::append_piece` meets its contract: a piece without a star stands for its bytes, one
+-- with it for those behind it.
 -- Assumes nothing.
 use borrow.Author.Needs.{needs}
 use Rattle.cases.proofs.laws.Pieces.{piece-plain, piece-times}
