@@ -77,7 +77,7 @@ fn reduce(mut arguments: Arguments) -> Option<String> {
     let room = arguments.room(REDUCED)?;
     let words = arguments.list()?;
     let mut reduced = [LIST_FILLER; REDUCED];
-    let answer = model::reduce(&words, &mut reduced[..room]);
+    let answer = model::reduce_remembering(&words, &mut reduced[..room]);
     Some(lines(answer.map(Kept)) + &list_line("reduced", &reduced))
 }
 

@@ -64,11 +64,24 @@ pub fn search(
 
 /// Writes the words that are no union of others of the list.
 pub fn reduce(words: &[u32], kept: &mut [u32]) -> Result<usize, Refusal> {
+    reduce_by(reduction::irredundant, words, kept)
+}
+
+/// The same for lists on which a plain search for a cover would take too long.
+pub fn reduce_remembering(words: &[u32], kept: &mut [u32]) -> Result<usize, Refusal> {
+    reduce_by(reduction::irredundant_remembering, words, kept)
+}
+
+fn reduce_by(
+    irredundant: fn(&[u32]) -> Vec<u32>,
+    words: &[u32],
+    kept: &mut [u32],
+) -> Result<usize, Refusal> {
     place::check_words(words)?;
     if kept.len() < words.len() {
         return Err(Refusal::BufferTooSmall);
     }
-    let irredundant = reduction::irredundant(words);
+    let irredundant = irredundant(words);
     kept[..irredundant.len()].copy_from_slice(&irredundant);
     Ok(irredundant.len())
 }

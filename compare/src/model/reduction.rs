@@ -2,36 +2,48 @@
 
 use std::collections::HashSet;
 
+/// What a search for a cover remembers: nothing, or the bits that were found to have no cover.
+type Memory = Option<HashSet<u32>>;
+
 /// The words of `words` that are not redundant, in order.
 pub fn irredundant(words: &[u32]) -> Vec<u32> {
+    kept(words, || None)
+}
+
+/// The same for lists on which a plain search would take too long: many choices leave the same
+/// bits open, and what has no cover is remembered.
+pub fn irredundant_remembering(words: &[u32]) -> Vec<u32> {
+    kept(words, || Some(HashSet::new()))
+}
+
+fn kept(words: &[u32], memory: impl Fn() -> Memory) -> Vec<u32> {
     let mut distinct = words.to_vec();
     distinct.sort_unstable();
     distinct.dedup();
     words
         .iter()
         .copied()
-        .filter(|&word| !is_redundant(word, &distinct))
+        .filter(|&word| !is_redundant(word, &distinct, memory()))
         .collect()
 }
 
 /// Whether the word is a union of two or more of `distinct` that share no input and no output.
 /// A part other than the word itself cannot be the whole, so the cover has at least two.
-fn is_redundant(word: u32, distinct: &[u32]) -> bool {
+fn is_redundant(word: u32, distinct: &[u32], mut memory: Memory) -> bool {
     let parts: Vec<u32> = distinct
         .iter()
         .copied()
         .filter(|&part| part != word && part & !word == 0)
         .collect();
-    covers(word, &parts, &mut HashSet::new())
+    covers(word, &parts, &mut memory)
 }
 
 /// Whether some of `parts`, which are those within `open`, cover `open` without sharing a bit.
-/// What was found to have no cover is remembered, since many choices leave the same bits open.
-fn covers(open: u32, parts: &[u32], uncoverable: &mut HashSet<u32>) -> bool {
+fn covers(open: u32, parts: &[u32], memory: &mut Memory) -> bool {
     if open == 0 {
         return true;
     }
-    if uncoverable.contains(&open) {
+    if memory.as_ref().is_some_and(|known| known.contains(&open)) {
         return false;
     }
     let bit = scarcest_bit(open, parts);
@@ -41,10 +53,10 @@ fn covers(open: u32, parts: &[u32], uncoverable: &mut HashSet<u32>) -> bool {
             .copied()
             .filter(|&other| other & part == 0)
             .collect();
-        covers(open & !part, &rest, uncoverable)
+        covers(open & !part, &rest, memory)
     });
-    if !covered {
-        uncoverable.insert(open);
+    if let (false, Some(known)) = (covered, memory) {
+        known.insert(open);
     }
     covered
 }
