@@ -127,7 +127,10 @@ fn listing(settings: model::Settings, text: &[u8], resources: Resources) -> Stri
         &mut list[..resources.list],
         &mut reduced[..resources.reduced],
     );
-    lines(answer) + &list_line("list", &list) + &cache_line(&cache) + &list_line("reduced", &reduced)
+    lines(answer)
+        + &list_line("list", &list)
+        + &cache_line(&cache)
+        + &list_line("reduced", &reduced)
 }
 
 fn list(mut arguments: Arguments) -> Option<String> {
