@@ -6,7 +6,7 @@ use mathlib.Core.List.{List}
 use lib.Dec.{leb}
 use Rattle.limits.specs.declared.Settings.{Settings}
 use Rattle.cases.specs.declared.listings.Resources.{Resources}
-use Rattle.cases.specs.Numbers.{numberAt}
+use Rattle.case_notation.specs.Numbers.{numberAt}
 
 -- the words after the name of a call are numbers of 8, 8, 8 and 16 bits
 unfoldable pub settingsFit : List ℕ → Bool

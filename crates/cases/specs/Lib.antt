@@ -1,9 +1,3 @@
-pub mod Fields
-pub mod Numbers
-pub mod Unfolding
-pub mod Texts
-pub mod WordLists
 pub mod Places
 pub mod Arguments
 pub mod Calls
-pub mod Runs

@@ -3,8 +3,8 @@
 use mathlib.Core.List.{List}
 use Prim.Native.Nat.{ℕ}
 use Rattle.cases.specs.declared.logs.Sets.{Sets}
-use Rattle.cases.specs.Fields.{partBefore, partAfter}
-use Rattle.cases.specs.Numbers.{numberOf}
+use Rattle.case_notation.specs.Fields.{partBefore, partAfter}
+use Rattle.case_notation.specs.Numbers.{numberOf}
 
 -- the hexadecimal numbers before and after a slash (47)
 unfoldable pub setsIn : List ℕ → Sets

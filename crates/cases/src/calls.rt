@@ -1,15 +1,15 @@
 // The calls by name, and a line of the table.
 ghost use mathlib.Core.Path.{_≡_};
 ghost use Rattle.cases.specs.Calls.{callNamed, leadingWords};
-use crate::fields::before;
-use crate::fields::rest;
 use crate::listings;
 use crate::logs;
-use crate::output::end_line;
-use crate::output::not_a_case;
-use crate::output::put;
 use crate::rewrites;
-use crate::texts::unfold;
+use case_notation::fields::before;
+use case_notation::fields::rest;
+use case_notation::texts::unfold;
+use case_output::end_line;
+use case_output::not_a_case;
+use case_output::put;
 use check::same;
 
 pub enum Call {

@@ -32,15 +32,9 @@
 use libc::STDIN_FILENO;
 
 mod calls; // calls.rt: the calls by name, and a line of the table
-mod fields; // fields.rt: the words of a line
 mod listings; // listings.rt: the calls that search
-mod lists; // lists.rt: lists in the table
 mod logs; // logs.rt: the calls that answer numbers alone
-mod numbers; // numbers.rt: numbers in the table
-mod output; // output.rt: what is written
 mod rewrites; // rewrites.rt: the calls that write a list again, or as text
-mod runs; // runs.rt: equal and rising words
-mod texts; // texts.rt: texts in the table
 
 fn main() {
     let mut table = [0u8; 131072];

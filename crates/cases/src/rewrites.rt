@@ -1,13 +1,13 @@
 // The calls that write a list again without its redundant places, or as text, and the one that does
 // all of placelist.
-use crate::fields::rest;
-use crate::lists::unfold;
-use crate::numbers::argument;
-use crate::output::field_line;
-use crate::output::not_a_case;
-use crate::output::reduced_line;
-use crate::output::refusal;
-use crate::output::text_line;
+use case_notation::fields::rest;
+use case_notation::lists::unfold;
+use case_notation::numbers::argument;
+use case_output::field_line;
+use case_output::not_a_case;
+use case_output::reduced_line;
+use case_output::refusal;
+use case_output::text_line;
 use reduction::reduce;
 use reduction_spec::Reduced;
 use reporter::report_places;

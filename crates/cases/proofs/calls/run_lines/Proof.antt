@@ -6,8 +6,8 @@ use native.Mathlib.Omega.{arith}
 use mathlib.Core.Path.{_≡_, ap}
 use mathlib.Core.List.{List}
 use lib.ListN.{length, take, drop, length-take, length-drop}
-use Rattle.cases.specs.Fields.{partBefore}
-use Rattle.cases.proofs.laws.Parts.{before-within}
+use Rattle.case_notation.specs.Fields.{partBefore}
+use Rattle.case_notation.proofs.laws.Parts.{before-within}
 use Rattle.cases.proofs.calls.run_lines.Statement.{statement}
 use Rattle.cases.proofs.calls.run_lines.Tie as tie
 

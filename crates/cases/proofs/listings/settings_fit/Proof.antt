@@ -4,7 +4,7 @@ use Prim.Native.Nat.{_≤_, _<_}
 use native.Mathlib.Omega.{arith}
 use borrow.Author.Needs.{needs}
 use borrow.Author.Tests.{le-leb, lt-leb}
-use Rattle.cases.specs.Numbers.{numberAt}
+use Rattle.case_notation.specs.Numbers.{numberAt}
 use Rattle.cases.specs.Arguments.{settingsFit}
 use Rattle.cases.proofs.listings.settings_fit.Statement.{statement}
 use Rattle.cases.proofs.listings.settings_fit.Tie as tie

@@ -4,7 +4,7 @@ use Prim.Native.Nat.{ℕ}
 use mathlib.Core.Path.{ap, _∙_}
 use borrow.Author.Needs.{needs}
 use Rattle.cases.specs.declared.logs.Sets.{Sets}
-use Rattle.cases.specs.Numbers.{numberOf}
+use Rattle.case_notation.specs.Numbers.{numberOf}
 use Rattle.cases.specs.Places.{setsIn}
 use Rattle.cases.proofs.logs.sets_in.Statement.{statement}
 use Rattle.cases.proofs.logs.sets_in.Tie as tie

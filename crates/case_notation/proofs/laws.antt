@@ -1,0 +1,6 @@
+pub mod Parts
+pub mod Appending
+pub mod Digits
+pub mod RunLengths
+pub mod RisingWords
+pub mod Pieces
