@@ -11,7 +11,10 @@ use limits::number_of;
 use limits::value_of;
 
 // The most words of a list.
-const MOST_WORDS: usize = 4160;
+pub const MOST_WORDS: usize = 4160;
+
+// What a list is filled with: a word without outputs, which no call writes.
+pub const LIST_FILL: u32 = 0xEEEE;
 
 pub fn put(bytes: &[u8]) {
     io::write_all(STDOUT_FILENO, bytes);

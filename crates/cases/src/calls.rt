@@ -12,6 +12,9 @@ use case_output::not_a_case;
 use case_output::put;
 use check::same;
 
+// The room for the text of a line. The program refuses inputs of more than 65,536 bytes, and a text of one byte more has room.
+const TEXT_ROOM: usize = 65538;
+
 pub enum Call {
     Check,
     Replay,
@@ -94,9 +97,9 @@ fn run_call(call: Call, line: &[u8], text: &[u8]) {
 
 fn run_case(line: &[u8]) {
     let call = call_of(before(line, b' '));
-    let mut text = [0u8; 65538];
+    let mut text = [0u8; TEXT_ROOM];
     let count = unfold(rest(line, leading_words(call)), &mut text);
-    if count < 65538 {
+    if count < TEXT_ROOM {
         run_call(call, line, &text[0..count]);
     } else {
         not_a_case();

@@ -5,6 +5,7 @@ ghost use Rattle.cases.specs.Arguments.{settingsFit, settingsIn, resourc
 use crate::rewrites::reduced;
 use assurance::list_twice;
 use case_notation::numbers::argument;
+use case_output::LIST_FILL;
 use case_output::begin_line;
 use case_output::cache_line;
 use case_output::end_line;
@@ -19,6 +20,19 @@ use discovery_spec::Run;
 use limits::Settings;
 use listing::Listing;
 use listing::list_places;
+
+// The words of a cache, of the list of a search, and of the lists of a listing.
+const CACHE_WORDS: usize = 640;
+
+const SEARCH_WORDS: usize = 2240;
+
+const LIST_WORDS: usize = 320;
+
+// What a cache is filled with: a word that would rule every candidate if it were read.
+const CACHE_FILL: u64 = 0x3FFFF0000;
+
+// The largest budget of 32 bits.
+const MOST_BUDGET: u64 = 4294967295;
 
 // Whether the words after the call's name are numbers that settings can be.
 fn settings_fit(line: &[u8]) -> bool
@@ -65,7 +79,7 @@ fn discovered(answer: Discovered) {
 }
 
 // The answer and the buffers of a search.
-fn search_lines(answer: Discovered, rejected: &[u64; 640], found: &[u32; 2240]) {
+fn search_lines(answer: Discovered, rejected: &[u64; CACHE_WORDS], found: &[u32; SEARCH_WORDS]) {
     discovered(answer);
     found_line(found);
     cache_line(rejected);
@@ -76,12 +90,12 @@ pub fn search(line: &[u8], text: &[u8]) {
     let cache = argument(line, 5) as usize;
     let list = argument(line, 6) as usize;
     let budget = argument(line, 7);
-    if 640 < cache || 2240 < list || 4294967295 < budget || !settings_fit(line) {
+    if CACHE_WORDS < cache || SEARCH_WORDS < list || MOST_BUDGET < budget || !settings_fit(line) {
         not_a_case();
         return;
     }
-    let mut rejected = [0x3FFFF0000u64; 640];
-    let mut found = [0xEEEEu32; 2240];
+    let mut rejected = [CACHE_FILL; CACHE_WORDS];
+    let mut found = [LIST_FILL; SEARCH_WORDS];
     let answer = discover(
         settings_in(line),
         text,
@@ -104,7 +118,12 @@ fn listed(answer: Listing) {
 }
 
 // The answer and the buffers of one listing.
-fn listing_lines(answer: Listing, rejected: &[u64; 640], found: &[u32; 320], kept: &[u32; 320]) {
+fn listing_lines(
+    answer: Listing,
+    rejected: &[u64; CACHE_WORDS],
+    found: &[u32; LIST_WORDS],
+    kept: &[u32; LIST_WORDS],
+) {
     listed(answer);
     found_line(found);
     cache_line(rejected);
@@ -117,13 +136,18 @@ pub fn list(line: &[u8], text: &[u8]) {
     let list = argument(line, 6) as usize;
     let room = argument(line, 7) as usize;
     let budget = argument(line, 8);
-    if 640 < cache || 320 < list || 320 < room || 4294967295 < budget || !settings_fit(line) {
+    if CACHE_WORDS < cache
+        || LIST_WORDS < list
+        || LIST_WORDS < room
+        || MOST_BUDGET < budget
+        || !settings_fit(line)
+    {
         not_a_case();
         return;
     }
-    let mut rejected = [0x3FFFF0000u64; 640];
-    let mut found = [0xEEEEu32; 320];
-    let mut kept = [0xEEEEu32; 320];
+    let mut rejected = [CACHE_FILL; CACHE_WORDS];
+    let mut found = [LIST_FILL; LIST_WORDS];
+    let mut kept = [LIST_FILL; LIST_WORDS];
     let answer = list_places(
         settings_in(line),
         text,
@@ -160,12 +184,12 @@ fn list_both(settings: Settings, text: &[u8], first: Resources, second: Resource
     requires { ⌜ (first .cache ≤ 640) × (first .list ≤ 320) × (first .reduced ≤ 320) × (first .budget ≤ 4294967295) ⌝ }
     requires { ⌜ (second .cache ≤ 640) × (second .list ≤ 320) × (second .reduced ≤ 320) × (second .budget ≤ 4294967295) ⌝ }
 {
-    let mut rejected1 = [0x3FFFF0000u64; 640];
-    let mut found1 = [0xEEEEu32; 320];
-    let mut kept1 = [0xEEEEu32; 320];
-    let mut rejected2 = [0x3FFFF0000u64; 640];
-    let mut found2 = [0xEEEEu32; 320];
-    let mut kept2 = [0xEEEEu32; 320];
+    let mut rejected1 = [CACHE_FILL; CACHE_WORDS];
+    let mut found1 = [LIST_FILL; LIST_WORDS];
+    let mut kept1 = [LIST_FILL; LIST_WORDS];
+    let mut rejected2 = [CACHE_FILL; CACHE_WORDS];
+    let mut found2 = [LIST_FILL; LIST_WORDS];
+    let mut kept2 = [LIST_FILL; LIST_WORDS];
     let cache1 = first.cache;
     let list1 = first.list;
     let room1 = first.reduced;
@@ -194,14 +218,18 @@ fn list_both(settings: Settings, text: &[u8], first: Resources, second: Resource
 pub fn twice(line: &[u8], text: &[u8]) {
     let first = resources_at(line, 5);
     let second = resources_at(line, 9);
-    if 640 < first.cache || 320 < first.list || 320 < first.reduced || 4294967295 < first.budget {
+    if CACHE_WORDS < first.cache
+        || LIST_WORDS < first.list
+        || LIST_WORDS < first.reduced
+        || MOST_BUDGET < first.budget
+    {
         not_a_case();
         return;
     }
-    if 640 < second.cache
-        || 320 < second.list
-        || 320 < second.reduced
-        || 4294967295 < second.budget
+    if CACHE_WORDS < second.cache
+        || LIST_WORDS < second.list
+        || LIST_WORDS < second.reduced
+        || MOST_BUDGET < second.budget
     {
         not_a_case();
         return;
