@@ -17,13 +17,17 @@ use Rattle.places.specs.Sets.{within, disjoint, union}
 abbrev pub place : ℕ → ℕ → Place
 place inputs outputs = record { inputs = inputs; outputs = outputs }
 
+-- what a set of outputs counts for in a word: 2 to the power 16
+abbrev pub outputUnit : ℕ
+outputUnit = 65536
+
 -- the 32-bit word of a place (document 01, "The walk")
 unfoldable pub word : Place → ℕ
-word p = p .inputs + 65536 * p .outputs
+word p = p .inputs + outputUnit * p .outputs
 
 -- the place that a list word stands for
 unfoldable pub placeOf : ℕ → Place
-placeOf w = place (w % 65536) (w / 65536)
+placeOf w = place (w % outputUnit) (w / outputUnit)
 
 -- a through place has inputs and outputs (Definition 3)
 unfoldable pub through : Place → Bool

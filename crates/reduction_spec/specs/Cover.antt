@@ -13,7 +13,7 @@ use lib.ListN.{length}
 use Rattle.foundation.specs.Lists.{Each, any, keep}
 use Rattle.limits.specs.Settings.{mostActivities}
 use Rattle.places.specs.Sets.{member}
-use Rattle.places.specs.Places.{placeOf, placeUnder}
+use Rattle.places.specs.Places.{outputUnit, placeOf, placeUnder}
 
 -- each word stands for a place that a call without settings takes
 unfoldable pub Listable : List ℕ → Type 0
@@ -38,10 +38,10 @@ choices words whole left activity = length (keep (λ (w : ℕ). usable whole lef
 
 -- how many inputs and outputs a word has
 abbrev pub inputCount : ℕ → ℕ
-inputCount w = ones (w % 65536)
+inputCount w = ones (w % outputUnit)
 
 abbrev pub outputCount : ℕ → ℕ
-outputCount w = ones (w / 65536)
+outputCount w = ones (w / outputUnit)
 
 -- the word has at least, and at most, as many inputs for each output as what is left
 unfoldable pub manyInputs : ℕ → ℕ → Bool

@@ -195,7 +195,7 @@ pub struct Run {
     pub visits: u32,
 }
 
-/// The room that [`reporter_spec`] needs: 4,096 lines of 9 bytes and a last one of 19.
+/// The room that [`report`] needs: 4,096 lines of 9 bytes and a last one of 19.
 pub const MOST_OUTPUT: usize = 36_883;
 
 /// The refusal of a number and a value that the archive gave, if it is one.

@@ -32,7 +32,7 @@ pub report-parts : (p : Progress) → report p ≡ listText (reportedWords p) ++
 unfolding report resultLine runLine summary
 report-parts p = refl
 
-pub log-fits : (s : Settings) (text : List ℕ) → length (logReport s text) ≤ mostOutput
+log-fits : (s : Settings) (text : List ℕ) → length (logReport s text) ≤ mostOutput
 unfolding logReport capacity
 log-fits s text = go (runRefusal s text) refl
   where
