@@ -11,18 +11,18 @@ use Rattle.event_log_spec.specs.Lines.{framesOf}
 
 -- what one byte of a frame's start, and one of its cases, count for in its word
 abbrev pub startUnit : ℕ
-startUnit = 256
+startUnit = 512
 
 abbrev pub caseUnit : ℕ
 caseUnit = 4294967296
 
--- the word of a frame: how many activities it has, where its activity digits start in the text, and its cases
+-- the word of a frame: how many activity digits it has, where they start in the text, and its cases
 abbrev pub indexWord : ℕ → ℕ → ℕ → ℕ
-indexWord activities start cases = activities + startUnit * start + caseUnit * cases
+indexWord digits start cases = digits + startUnit * start + caseUnit * cases
 
 -- what a word holds
-abbrev pub wordActivities : ℕ → ℕ
-wordActivities w = w % startUnit
+abbrev pub wordDigits : ℕ → ℕ
+wordDigits w = w % startUnit
 
 abbrev pub wordStart : ℕ → ℕ
 wordStart w = w % caseUnit / startUnit
@@ -35,8 +35,8 @@ unfoldable pub frameIndex : ℕ → List Frame → List ℕ
 frameIndex from [] = []
 frameIndex from (f ∷ frames) =
     let start = from + countDigits in
-    let activities = length (f .trace) in
-    indexWord activities start (f .cases) ∷ frameIndex (start + 2 * activities + 1) frames
+    let digits = 2 * length (f .trace) in
+    indexWord digits start (f .cases) ∷ frameIndex (start + digits + 1) frames
 
 -- a log that was accepted, and the index of its frames
 pub record Indexed (text index : List ℕ) : Type 0 where

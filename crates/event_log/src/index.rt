@@ -11,17 +11,17 @@ use crate::frame::cases_at;
 use crate::frame::trace_end;
 use log_lines::COUNT_DIGITS;
 
-// What one byte of a frame's start, and one of its cases, count for in its word. Below the start stands how many activities the frame has.
-const START_UNIT: u64 = 256;
+// What one byte of a frame's start, and one of its cases, count for in its word. Below the start stands how many activity digits the frame has.
+const START_UNIT: u64 = 512;
 
 const CASE_UNIT: u64 = 4294967296;
 
 // The word of a frame.
-fn index_word(activities: usize, start: usize, cases: u64) -> u64
-    requires { ⌜ (activities < startUnit) × (start < caseUnit / startUnit) × (cases < caseUnit) ⌝ }
-    ensures { λ r. ⌜ r ≡ indexWord activities start cases ⌝ }
+fn index_word(digits: usize, start: usize, cases: u64) -> u64
+    requires { ⌜ (digits < startUnit) × (start < caseUnit / startUnit) × (cases < caseUnit) ⌝ }
+    ensures { λ r. ⌜ r ≡ indexWord digits start cases ⌝ }
 {
-    activities as u64 + START_UNIT * start as u64 + CASE_UNIT * cases
+    digits as u64 + START_UNIT * start as u64 + CASE_UNIT * cases
 }
 
 // A word for each frame of a log that was accepted, so that nothing has to be looked for or decoded when its traces are replayed again and again. Written
@@ -36,7 +36,7 @@ pub fn index_frames(text: &[u8], index: &mut [u64]) -> usize
     while at < text.len() {
         let start = at + COUNT_DIGITS;
         let end = trace_end(text, start);
-        index[count] = index_word((end - start) / 2, start, cases_at(text, at));
+        index[count] = index_word(end - start, start, cases_at(text, at));
         count += 1;
         at = end + 1;
     }
@@ -58,7 +58,7 @@ pub fn frame_digits<'a>(text: &'a [u8], index: &[u64], frame: usize) -> &'a [u8]
 {
     let word = index[frame];
     let start = (word % CASE_UNIT / START_UNIT) as usize;
-    let end = start + 2 * (word % START_UNIT) as usize;
+    let end = start + (word % START_UNIT) as usize;
     &text[start..end]
 }
 

@@ -63,12 +63,12 @@ SomeStored text before index count at frames = (left : List Frame) × Stored tex
 pub record Turn (text before index : List ℕ) (count at start end cases : ℕ) (frames : List Frame) : Type 0 where
   pub inside : end < length text
   pub onward : start ≤ end
-  pub activities-fit : (end - start) / 2 < startUnit
+  pub digits-fit : end - start < startUnit
   pub start-fits : start < caseUnit / startUnit
   pub cases-fit : cases < caseUnit
   pub room : count < mostFrames
   pub after : mostFrames ≤ length index
-      → SomeStored text before (set index count (indexWord ((end - start) / 2) start cases)) (count + 1) (end + 1) frames
+      → SomeStored text before (set index count (indexWord (end - start) start cases)) (count + 1) (end + 1) frames
 
 module _ (text before : List ℕ) (frames : List Frame) (log : WrittenLog mostActivities frames text) where
   pub none-stored : SomeStored text before before 0 0 frames
@@ -89,12 +89,12 @@ module _ (text before : List ℕ) (frames : List Frame) (log : WrittenLog mostAc
         let end = frame-end text at f rest (s .written) in
         let inside = frame-inside text at f rest (s .written) in
         let start = at + countDigits in
-        let two : (traceEnd text start - start) / 2 ≡ length (f .trace) = omega (arith, end) in
-        let word = indexWord ((traceEnd text start - start) / 2) start (casesAt text at) in
+        let digits : traceEnd text start - start ≡ 2 * length (f .trace) = omega (arith, end) in
+        let word = indexWord (traceEnd text start - start) start (casesAt text at) in
         record {
           inside = inside;
           onward = omega (arith, end);
-          activities-fit = omega (arith, two, each-head (s .under) .short);
+          digits-fit = omega (arith, digits, each-head (s .under) .short);
           start-fits = omega (arith, inside, end, log-bytes log);
           cases-fit = omega (arith, cases, small);
           room = omega (arith, s .counted, log .few-frames);
@@ -111,7 +111,7 @@ module _ (text before : List ℕ) (frames : List Frame) (log : WrittenLog mostAc
                       ap₂ (λ (buffer : List ℕ) (n : ℕ). set buffer n word) (s .stored) (sym (s .measured))
                       ∙ overwrite-more before (s .done) word (omega (arith, s .measured, s .counted, log .few-frames, wide, ap length (s .stored)));
                   together =
-                      append-assoc (s .done) (word ∷ []) (frameIndex (traceEnd text (at + countDigits) + 1) left) ∙ rw (two, end, cases) (s .together);
+                      append-assoc (s .done) (word ∷ []) (frameIndex (traceEnd text (at + countDigits) + 1) left) ∙ rw (digits, end, cases) (s .together);
                 },
               );
         }

@@ -15,7 +15,7 @@ use Rattle.event_log_spec.specs.Frames.{Frame, FrameUnder, WrittenLog, countDig
 use Rattle.event_log_spec.specs.Lines.{framesOf}
 use Rattle.event_log_spec.proofs.laws.PairLaws.{length-pairs}
 use Rattle.event_log.specs.Stepping.{traceEnd}
-use Rattle.event_log.specs.FrameIndex.{startUnit, caseUnit, indexWord, wordActivities, wordStart, wordCases, frameIndex, Indexed, frameAt, activityDigits}
+use Rattle.event_log.specs.FrameIndex.{startUnit, caseUnit, indexWord, wordDigits, wordStart, wordCases, frameIndex, Indexed, frameAt, activityDigits}
 use Rattle.event_log.proofs.laws.FrameAt.{from-digits, frame-end, frame-part, frame-inside, frame-next}
 use Rattle.event_log.proofs.laws.FrameIndex.{log-bytes, length-index}
 
@@ -23,13 +23,13 @@ use Rattle.event_log.proofs.laws.FrameIndex.{log-bytes, length-index}
 pub record WordOf (text : List ℕ) (f : Frame) (w : ℕ) : Type 0 where
   pub under : FrameUnder mostActivities f
   pub cases : wordCases w ≡ f .cases
-  pub inside : wordStart w + 2 * wordActivities w ≤ length text
-  pub digits : take (2 * wordActivities w) (drop (wordStart w) text) ≡ activityDigits f
+  pub inside : wordStart w + wordDigits w ≤ length text
+  pub digits : take (wordDigits w) (drop (wordStart w) text) ≡ activityDigits f
 
 module _ (text : List ℕ) (small : length text < caseUnit / startUnit) where
   -- the first of the frames from an index on
   first-word : (from : ℕ) (f : Frame) (frames : List Frame) → drop from text ≡ flatMap writeFrame (f ∷ frames) → FrameUnder mostActivities f
-      → WordOf text f (indexWord (length (f .trace)) (from + countDigits) (f .cases))
+      → WordOf text f (indexWord (2 * length (f .trace)) (from + countDigits) (f .cases))
   unfolding flatMap
   first-word from f frames e under =
       let rest = flatMap writeFrame frames in
@@ -38,15 +38,15 @@ module _ (text : List ℕ) (small : length text < caseUnit / startUnit) where
       let measured = length-pairs (f .trace) in
       let inside : start + 2 * length (f .trace) < length text =
       omega (arith, frame-end text from f rest e, frame-inside text from f rest e) in
-      let w = indexWord (length (f .trace)) start (f .cases) in
-      let activities : wordActivities w ≡ length (f .trace) = omega (arith, under .short) in
-      let below : w % caseUnit ≡ length (f .trace) + startUnit * start = omega (arith, under .short, inside, small) in
+      let w = indexWord (2 * length (f .trace)) start (f .cases) in
+      let digits : wordDigits w ≡ 2 * length (f .trace) = omega (arith, under .short) in
+      let below : w % caseUnit ≡ 2 * length (f .trace) + startUnit * start = omega (arith, under .short, inside, small) in
       let starts : wordStart w ≡ start = rw below (omega (arith, under .short)) in
       record {
         under = under;
         cases = omega (arith, under .short, inside, small);
-        inside = omega (arith, activities, starts, inside);
-        digits = rw (activities, starts, here) (take-at (activityDigits f) (lineFeed ∷ rest) (2 * length (f .trace)) (omega (arith, measured)));
+        inside = omega (arith, digits, starts, inside);
+        digits = rw (digits, starts, here) (take-at (activityDigits f) (lineFeed ∷ rest) (2 * length (f .trace)) (omega (arith, measured)));
       }
 
   -- and each that follows

@@ -5,7 +5,7 @@ use native.Mathlib.Omega.{arith}
 use mathlib.Core.Path.{_≡_, ap, _∙_}
 use borrow.Author.Needs.{needs}
 use lib.ListN.{take, drop, getD}
-use Rattle.event_log.specs.FrameIndex.{wordActivities, wordStart, frameAt}
+use Rattle.event_log.specs.FrameIndex.{wordDigits, wordStart, frameAt}
 use Rattle.event_log.proofs.laws.IndexedFrames.{WordOf, frame-found}
 use Rattle.event_log.proofs.index.frame_digits.Statement.{statement}
 use Rattle.event_log.proofs.index.frame_digits.Tie as tie
@@ -22,7 +22,7 @@ returns : tie.Need-returns
 returns c =
     let a = c .before .before .args in
     let w = getD (a .index .now) (a .frame) 0 in
-    let size : wordStart w + 2 * wordActivities w - wordStart w ≡ 2 * wordActivities w = omega arith in
+    let size : wordStart w + wordDigits w - wordStart w ≡ wordDigits w = omega arith in
     ap (λ (n : ℕ). take n (drop (wordStart w) (a .text .now))) size ∙ found (c .before) .digits
 
 pub frame-digits-spec : {M : Type 1} → statement M
@@ -31,7 +31,6 @@ frame-digits-spec =
     (tie.spec
     (λ c. search needs)  -- mul-word
     (λ c. search needs)  -- shared-slice-read-word
-    (λ c. search needs)  -- mul-end
     (λ c. search needs)  -- add-end
     (λ c. search needs)  -- sub-result
     (λ c. search needs)  -- part-result-start

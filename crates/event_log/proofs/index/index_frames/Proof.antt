@@ -58,7 +58,7 @@ room c =
 
 index-word-requires : tie.Need-index-word-requires Inv-loop μ-loop
 index-word-requires c κs =
-    let t = here (c .before) in rw (c .cases-at .ensures) (t .activities-fit, t .start-fits, t .cases-fit)
+    let t = here (c .before) in rw (c .cases-at .ensures) (t .digits-fit, t .start-fits, t .cases-fit)
 
 loop-again : tie.Need-loop-again Inv-loop μ-loop
 loop-again c =
