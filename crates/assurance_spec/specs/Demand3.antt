@@ -1,5 +1,6 @@
--- Demand 3, in its own words: one claim about two runs on one log under the same settings and about both reductions. It speaks of what a caller
--- sees: what was lent, what was answered, and what the buffers hold on return. Document 00, demand 3; document 01, the words of demand 3.
+-- Demand 3, in its own words: one claim about two runs on one log under the same settings and about
+-- both reductions. It speaks of what a caller sees: what was lent, what was answered, and what the
+-- buffers hold on return. Document 00, demand 3; document 01, the words of demand 3.
 -- Assumes nothing.
 use Prim.Native.Nat.{ℕ, _≤_}
 use mathlib.Core.Path.{_≡_}
@@ -23,7 +24,8 @@ use Rattle.listing.specs.declared.Listing.{Listing}
 use Rattle.listing.specs.declared.Listing.the-variants.{Refused, Incomplete, Complete}
 use Rattle.listing.specs.Listing.{Resources, foundIn, foundLeft, keptLeft, listing}
 
--- one run and its reduction as a caller sees them: what was lent, the answer, and the list and the second buffer on return
+-- one run and its reduction as a caller sees them: what was lent, the answer, and the list and the
+-- second buffer on return
 pub record Observed : Type 0 where
   pub resources : Resources
   pub answer : Listing
@@ -49,29 +51,31 @@ pub record AtLeastAsLarge (first second : Resources) : Type 0 where
   pub found : length (first .found) ≤ length (second .found)
   pub budget : first .budget ≤ second .budget
 
--- words are exactly the fitting candidates: every through place within the size limits that is neither underfed nor overfed, each exactly once, in
--- the stated order, and nothing else
+-- words are exactly the fitting candidates: every through place within the size limits that is
+-- neither underfed nor overfed, each exactly once, in the stated order, and nothing else
 pub record ExactlyFitting (s : Settings) (text : List ℕ) (words : List ℕ) : Type 0 where
   pub these : words ≡ map word (fittingCandidates s text)
   pub exactly : (p : Place) → List·Memᴰ p (map placeOf words) ↔ ((candidate s p ≡ true) × (fits s text p ≡ true))
   pub once : Ordered (λ (p q : Place). p ≡ q → ⊥) (map placeOf words)
   pub in-order : Ordered PlaceBefore (map placeOf words)
 
--- the kept words are exactly the listed ones whose place is no union of two or more non-overlapping listed places, in that same order
+-- the kept words are exactly the listed ones whose place is no union of two or more non-overlapping
+-- listed places, in that same order
 pub record ExactlyIrredundant (listed kept : List ℕ) : Type 0 where
   pub these : kept ≡ reducedWords listed
   pub exactly : (w : ℕ) → List·Memᴰ w kept ↔ (List·Memᴰ w listed × (UnionOf listed (placeOf w) → ⊥))
   pub in-order : Ordered PlaceBefore (map placeOf kept)
 
--- the reduction of what a completed run found, where the second buffer is at least as long: it answers how many words it kept, and they are the
--- first ones of that buffer
+-- the reduction of what a completed run found, where the second buffer is at least as long: it
+-- answers how many words it kept, and they are the first ones of that buffer
 unfoldable pub ReducedTo : Observed → Run → Type 0
 ReducedTo o run =
     let listed = foundIn run (o .found) in
     length listed ≤ length (o .resources .kept)
     → (count : ℕ) × (o .answer ≡ Complete run (Kept count)) × ExactlyIrredundant listed (take count (o .kept))
 
--- a run completes if its list can take every fitting candidate and its budget is at least the number of candidates
+-- a run completes if its list can take every fitting candidate and its budget is at least the
+-- number of candidates
 unfoldable pub AmpleCompletes : Settings → List ℕ → Resources → Run → Type 0
 AmpleCompletes s text resources run =
     length (fittingCandidates s text) ≤ length (resources .found) → length (candidates s) ≤ resources .budget → Completed run
@@ -100,7 +104,8 @@ module _ (s : Settings) (text : List ℕ) (first second : Observed) where
     -- if the first completes
     pub if-first-completes : Completed run₁ → IfFirstCompletes run₁ run₂
 
-  -- demand 3: take any two runs, the second with a cache, a list and a budget each at least as large as the first's
+  -- demand 3: take any two runs, the second with a cache, a list and a budget each at least as
+  -- large as the first's
   unfoldable pub Demand3 : Type 0
   Demand3 =
       (run₁ run₂ : Run)

@@ -12,7 +12,8 @@ use case_output::not_a_case;
 use case_output::put;
 use check::same;
 
-// The room for the text of a line. The program refuses inputs of more than 65,536 bytes, and a text of one byte more has room.
+// The room for the text of a line. The program refuses inputs of more than 65,536 bytes, and a text
+// of one byte more has room.
 const TEXT_ROOM: usize = 65538;
 
 pub enum Call {

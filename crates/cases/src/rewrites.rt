@@ -16,7 +16,8 @@ use reporter::report_places;
 use writer::Written;
 use writer::write_places;
 
-// The bytes of a text that a call writes, more than the longest output of the program, and what it is filled with.
+// The bytes of a text that a call writes, more than the longest output of the program, and what it
+// is filled with.
 const TEXT_BYTES: usize = 36900;
 
 const TEXT_FILL: u8 = b'~';

@@ -1,5 +1,5 @@
--- Which activity the search for a cover takes up next: one that the fewest words can cover. So where some activity can be covered by no word, that is
--- seen at once.
+-- Which activity the search for a cover takes up next: one that the fewest words can cover. So
+-- where some activity can be covered by no word, that is seen at once.
 -- Assumes nothing.
 use Prim.Native.Nat.{ℕ, _+_, _-_, _^_, _≤_, _<_, min}
 use mathlib.Core.Path.{_≡_}

@@ -21,7 +21,8 @@ pub struct Tally {
 // Which activity is covered next.
 pub enum Choice {
     Activity(u32),
-    // there is no cover: some activity is in no word that can be the next part, or these words are not balanced
+    // there is no cover: some activity is in no word that can be the next part, or these words are
+    // not balanced
     Uncoverable,
 }
 
@@ -71,8 +72,9 @@ fn outputs_of(word: u32) -> u32
     u32::count_ones(word / OUTPUT_UNIT)
 }
 
-// Whether the words that can be the next part are not all poorer in inputs for their outputs than what is left, and not all richer. Words that are all
-// of one kind make it up in no way, which else is seen only after every way was tried.
+// Whether the words that can be the next part are not all poorer in inputs for their outputs than
+// what is left, and not all richer. Words that are all of one kind make it up in no way, which else
+// is seen only after every way was tried.
 fn is_balanced(words: &[u32], whole: u32, left: u32) -> bool
     ensures { λ r. ⌜ r ≡ balanced (now (words .entry)) whole left ⌝ }
 {
@@ -159,8 +161,9 @@ fn rarest_of(words: &[u32], whole: u32, left: u32) -> u32
     rarest
 }
 
-// The activity to cover next, by the tally where it tells. The search ends here where no word can cover some activity, and where every activity has a
-// choice of three or more but the words are not balanced.
+// The activity to cover next, by the tally where it tells. The search ends here where no word can
+// cover some activity, and where every activity has a choice of three or more but the words are not
+// balanced.
 pub fn choose(words: &[u32], whole: u32, left: u32) -> Choice
     requires { ⌜ 0 < left ⌝ }
     ensures { λ r. ⌜ Chosen (now (words .entry)) whole left r ⌝ }

@@ -1,4 +1,5 @@
--- The definition of the search, tried on two small logs. The figures of whole runs were found by a second program (docs/DECISIONS.md, 5).
+-- The definition of the search, tried on two small logs. The figures of whole runs were found by a
+-- second program (docs/DECISIONS.md, 5).
 -- Assumes nothing.
 use Prim.Native.Nat.{ℕ}
 use mathlib.Core.Path.{_≡_, refl}
@@ -42,20 +43,23 @@ abbrev ran : ℕ → ℕ → ℕ → ℕ → ℕ → Discovered
 ran end found rejected replays visits =
     Ran (record { end = end; found = found; rejected = rejected; replays = replays; visits = visits })
 
--- either of two signatures, 2 or 3, releases the case: 56 candidates of at most three inputs and one output
+-- either of two signatures, 2 or 3, releases the case: 56 candidates of at most three inputs and
+-- one output
 abbrev eitherLog : List ℕ
 eitherLog = bytes "0002000201\n0001000301\n"
 
 abbrev either : Capacity → Discovered
 either room = discovered (settings 4 3 1) eitherLog room
 
--- the log of the source's Figure 1: 126 candidates of at most two inputs and one output, the figure's p1, p2 and p5 among the six found
+-- the log of the source's Figure 1: 126 candidates of at most two inputs and one output, the
+-- figure's p1, p2 and p5 among the six found
 abbrev figure1 : Capacity → Discovered
 figure1 room = discovered (settings 6 2 1) figure1Log room
 
 pub record RunExamples : Type 0 where
   pub completed : either (holding 56 56 56) ≡ ran 0 2 21 23 29
-  -- the second place found, from 2 and 3 to the end, would be lost by pruning after the underfed verdict on 2 alone
+  -- the second place found, from 2 and 3 to the end, would be lost by pruning after the underfed
+  -- verdict on 2 alone
   pub found :
       foundAfter (settings 4 3 1) eitherLog (replicate 56 5) (7 ∷ 8 ∷ 9 ∷ []) 56
       ≡ word (place 0x0001 0x0002) ∷ word (place 0x000C 0x0002) ∷ 9 ∷ []

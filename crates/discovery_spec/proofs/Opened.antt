@@ -1,4 +1,5 @@
--- One name for all definitions of this layer and of those below it: a proof by computation says `unfolding opened`.
+-- One name for all definitions of this layer and of those below it: a proof by computation says
+-- `unfolding opened`.
 -- Assumes nothing.
 use Rattle.discovery_spec.specs.Rejected.{rejectedWord, markIn, placeIn, rulesUnderfed, rulesOverfed, ruledOverfed, ruled}
 use Rattle.discovery_spec.specs.Search.{start, visited, replayedOnce, withFound, withRejected, withPruned, proceed, isPruned, accept, reject, conclude, replay, visit, step, search, endOf, stateOf}

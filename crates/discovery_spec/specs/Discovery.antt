@@ -1,4 +1,5 @@
--- What the search call answers and what it leaves in the two buffers that it is lent, refusals included. Document 01, "The walk".
+-- What the search call answers and what it leaves in the two buffers that it is lent, refusals
+-- included. Document 01, "The walk".
 -- Assumes nothing.
 use Prim.Native.Nat.{ℕ}
 use mathlib.Core.List.{List}
@@ -22,7 +23,8 @@ use Rattle.discovery_spec.specs.Search.{Capacity, holding, Progress, sea
 unfoldable pub run : Settings → List ℕ → Capacity → Progress
 run s text room = search (verdict (s .threshold) (framesOf text)) room (candidates s)
 
--- what the answer says of a run: its end, the words found (listed) and rejected (shelved), the replays and the visits
+-- what the answer says of a run: its end, the words found (listed) and rejected (shelved), the
+-- replays and the visits
 unfoldable pub summary : Progress → Run
 summary p =
     record {
@@ -55,11 +57,13 @@ unfoldable pub replaysIn : Discovered → ℕ
 replaysIn (Ran run) = run .replays
 replaysIn (Refused r) = 0
 
--- the capacity that the two buffers and the budget give a run: as much room as the buffers are long, whatever they hold
+-- the capacity that the two buffers and the budget give a run: as much room as the buffers are
+-- long, whatever they hold
 unfoldable pub capacityOf : List ℕ → List ℕ → ℕ → Capacity
 capacityOf rejected found budget = holding (length rejected) (length found) budget
 
--- what the list holds on return, for a cache and a list that held these words: the words found, then its old tail; after a refusal, what it held
+-- what the list holds on return, for a cache and a list that held these words: the words found,
+-- then its old tail; after a refusal, what it held
 unfoldable pub foundAfter : Settings → List ℕ → List ℕ → List ℕ → ℕ → List ℕ
 foundAfter s text rejected found budget =
     answer

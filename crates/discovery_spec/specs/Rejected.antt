@@ -1,4 +1,5 @@
--- Words of rejected places, and the candidates that they rule. Document 01, "The walk", first two paragraphs: its shelf words and their marks.
+-- Words of rejected places, and the candidates that they rule. Document 01, "The walk", first two
+-- paragraphs: its shelf words and their marks.
 -- Assumes nothing.
 use Prim.Native.Nat.{ℕ, _+_, _*_, _/_, _%_}
 use mathlib.Core.Bool.{Bool, _&&_, _||_}
@@ -14,8 +15,8 @@ use Rattle.replay_spec.specs.Judgement.{mark}
 abbrev pub markUnit : ℕ
 markUnit = 4294967296
 
--- the 64-bit word of a rejected place, a shelf word of document 01: its list word, and the mark above bit 31. A fitting place, of mark 0, is not
--- rejected, and a word of that mark rules nothing
+-- the 64-bit word of a rejected place, a shelf word of document 01: its list word, and the mark
+-- above bit 31. A fitting place, of mark 0, is not rejected, and a word of that mark rules nothing
 unfoldable pub rejectedWord : Place → Verdict → ℕ
 rejectedWord p v = word p + markUnit * mark v
 

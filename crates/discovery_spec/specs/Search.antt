@@ -1,5 +1,6 @@
--- The search over candidates, a definition for each sentence of document 01, "The walk". Its terms for what is here: the shelf is the cache of
--- rejected words, the list the found words, the allowance the replay budget, offspring are descendants, and passed over is pruned.
+-- The search over candidates, a definition for each sentence of document 01, "The walk". Its terms
+-- for what is here: the shelf is the cache of rejected words, the list the found words, the
+-- allowance the replay budget, offspring are descendants, and passed over is pruned.
 -- Assumes nothing.
 use Prim.Native.Nat.{ℕ, _+_}
 use mathlib.Core.Bool.{Bool, cond}
@@ -24,7 +25,8 @@ pub record Capacity : Type 0 where
 abbrev pub holding : ℕ → ℕ → ℕ → Capacity
 holding rejected found budget = record { rejected = rejected; found = found; budget = budget }
 
--- what a run has so far: the words it appended, what it counted, and the visited candidates whose descendants it passes over
+-- what a run has so far: the words it appended, what it counted, and the visited candidates whose
+-- descendants it passes over
 pub record State : Type 0 where
   pub rejected : List ℕ
   pub found : List ℕ
@@ -51,7 +53,8 @@ pub data Progress : Type 0 where
 unfoldable pub start : State
 start = record { rejected = []; found = []; replays = 0; visits = 0; pruned = [] }
 
--- the state with one visit more, one replay more, one word more of either kind, one candidate more to prune below
+-- the state with one visit more, one replay more, one word more of either kind, one candidate more
+-- to prune below
 unfoldable pub visited : State → State
 visited s = record { rejected = s .rejected; found = s .found; replays = s .replays; visits = s .visits + 1; pruned = s .pruned }
 
@@ -76,7 +79,8 @@ unfoldable pub isPruned : State → Place → Bool
 isPruned s c = any (λ (ancestor : Place). descends ancestor c) (s .pruned)
 
 module _ (room : Capacity) where
-  -- a fitting candidate is found; where the list is full the run stops with end 2, and the candidate stays counted
+  -- a fitting candidate is found; where the list is full the run stops with end 2, and the
+  -- candidate stays counted
   unfoldable pub accept : Place → State → Progress
   accept c s = cond (ltb (length (s .found)) (room .found)) (proceed c (withFound (word c) s)) (stopped listFull s)
 
@@ -92,7 +96,8 @@ module _ (room : Capacity) where
   conclude Both c s = reject Both c s
 
 module _ (verdict : Place → Verdict) (room : Capacity) where
-  -- with the budget spent the run stops with end 1 before the candidate counts; else it is visited and replayed
+  -- with the budget spent the run stops with end 1 before the candidate counts; else it is visited
+  -- and replayed
   unfoldable pub replay : Place → State → Progress
   replay c s = cond (leb (room .budget) (s .replays)) (stopped budgetSpent s) (conclude room (verdict c) c (replayedOnce (visited s)))
 

@@ -1,7 +1,9 @@
-// What the search over candidates answers: document 01, "The walk". The search itself is defined in specs/, and its code is in `discovery`.
+// What the search over candidates answers: document 01, "The walk". The search itself is defined in
+// specs/, and its code is in `discovery`.
 use limits::Refusal;
 
-// How a run ended: after the last candidate, with its replay budget spent, or with its list of found places full.
+// How a run ended: after the last candidate, with its replay budget spent, or with its list of
+// found places full.
 pub const COMPLETED: u8 = 0;
 
 pub const BUDGET_SPENT: u8 = 1;
@@ -11,7 +13,8 @@ pub const LIST_FULL: u8 = 2;
 // What the mark of a rejected place counts for in its word: 2 to the power 32.
 pub const MARK_UNIT: u64 = 4294967296;
 
-// What a run answers: how it ended, how many words it found and rejected, and how many candidates it replayed and visited.
+// What a run answers: how it ended, how many words it found and rejected, and how many candidates
+// it replayed and visited.
 pub struct Run {
     pub end: u8,
     pub found: usize,

@@ -1,4 +1,5 @@
--- The index of a log's frames: a word for each, with all that is asked of a frame again and again. Document 01, "Settings and the log".
+-- The index of a log's frames: a word for each, with all that is asked of a frame again and again.
+-- Document 01, "Settings and the log".
 -- Assumes nothing.
 use Prim.Native.Nat.{ℕ, _+_, _-_, _*_, _/_, _%_}
 use mathlib.Core.Path.{_≡_}
@@ -30,7 +31,8 @@ wordStart w = w % caseUnit / startUnit
 abbrev pub wordCases : ℕ → ℕ
 wordCases w = w / caseUnit
 
--- the words of the frames that are written from an index on: each has its count, its digits and a line feed, and then the next one follows
+-- the words of the frames that are written from an index on: each has its count, its digits and a
+-- line feed, and then the next one follows
 unfoldable pub frameIndex : ℕ → List Frame → List ℕ
 frameIndex from [] = []
 frameIndex from (f ∷ frames) =

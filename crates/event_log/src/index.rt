@@ -1,4 +1,5 @@
-// The index of a log's frames, made once for all replays: document 01, "Settings and the log". What a word of it holds is known in this file alone.
+// The index of a log's frames, made once for all replays: document 01, "Settings and the log". What
+// a word of it holds is known in this file alone.
 ghost use mathlib.Core.Path.{_≡_};
 ghost use Prim.Native.Nat.{_/_, _≤_, _<_};
 ghost use lib.ListN.{length, getD};
@@ -11,7 +12,8 @@ use crate::frame::cases_at;
 use crate::frame::trace_end;
 use log_lines::COUNT_DIGITS;
 
-// What one byte of a frame's start, and one of its cases, count for in its word. Below the start stands how many activity digits the frame has.
+// What one byte of a frame's start, and one of its cases, count for in its word. Below the start
+// stands how many activity digits the frame has.
 const START_UNIT: u64 = 512;
 
 const CASE_UNIT: u64 = 4294967296;
@@ -24,8 +26,9 @@ fn index_word(digits: usize, start: usize, cases: u64) -> u64
     digits as u64 + START_UNIT * start as u64 + CASE_UNIT * cases
 }
 
-// A word for each frame of a log that was accepted, so that nothing has to be looked for or decoded when its traces are replayed again and again. Written
-// from the front of a buffer that has room for as many frames as a log can have; answers how many there are.
+// A word for each frame of a log that was accepted, so that nothing has to be looked for or decoded
+// when its traces are replayed again and again. Written from the front of a buffer that has room
+// for as many frames as a log can have; answers how many there are.
 pub fn index_frames(text: &[u8], index: &mut [u64]) -> usize
     requires { ⌜ WrittenLog mostActivities (framesOf (now text)) (now text) × (mostFrames ≤ length (now index)) ⌝ }
     ensures count { λ r. ⌜ r ≡ length (framesOf (now (text .entry))) ⌝ }

@@ -34,7 +34,8 @@ fn check_lines(activities: u8, text: &[u8]) -> Checked
     Checked::Accepted { frames, cases }
 }
 
-// Checks a text for a call whose settings and places have passed their checks, which come before those of the text.
+// Checks a text for a call whose settings and places have passed their checks, which come before
+// those of the text.
 pub fn check_text(activities: u8, text: &[u8]) -> Checked
     ensures { λ r. ⌜ r ≡ textChecked activities (now (text .entry)) ⌝ }
 {

@@ -1,4 +1,5 @@
--- What checking a log answers. Document 01, "Settings and the log": numbers 2 to 6 of the table, and the order of checks in a text and a line.
+-- What checking a log answers. Document 01, "Settings and the log": numbers 2 to 6 of the table,
+-- and the order of checks in a text and a line.
 -- Assumes nothing.
 use Prim.Native.Nat.{ℕ, suc, _-_, _%_}
 use mathlib.Core.Bool.{Bool, not, _||_}
@@ -61,7 +62,8 @@ emptyFault text = given (eqb (length text) 0) EmptyLog
 unfoldable pub textFault : ℕ → List ℕ → Option Refusal
 textFault A text = linesFault A 0 (lines text)
 
--- the refusal of a call that is lent a log: what its settings and its place give, then what the text gives under A
+-- the refusal of a call that is lent a log: what its settings and its place give, then what the
+-- text gives under A
 unfoldable pub logRefusal : Option Refusal → Option Refusal → ℕ → List ℕ → Option Refusal
 logRefusal settings places A text =
     firstRefusal

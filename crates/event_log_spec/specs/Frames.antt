@@ -1,4 +1,5 @@
--- Frames, and how a log is built from them: the written form. Document 01, "Settings and the log"; the source's Definitions 1 and 2.
+-- Frames, and how a log is built from them: the written form. Document 01, "Settings and the log";
+-- the source's Definitions 1 and 2.
 -- Assumes nothing.
 use Prim.Native.Nat.{ℕ, _+_, _*_, _^_, _≤_, _<_}
 use mathlib.Core.Path.{_≡_}

@@ -1,4 +1,5 @@
--- The refusals and the order of checks: document 01, "Settings and the log", the table and the paragraph below it.
+-- The refusals and the order of checks: document 01, "Settings and the log", the table and the
+-- paragraph below it.
 -- Assumes nothing.
 use Prim.Native.Nat.{ℕ}
 use mathlib.Core.Path.{_≡_}
@@ -41,8 +42,9 @@ firstOf [] = none
 firstOf (some r ∷ later) = some r
 firstOf (none ∷ later) = firstOf later
 
--- what each check of a call gives; `none` where it passes, and where the call has no such argument. Those marked (02) are positions
--- for the checks of document 02, which the calls of document 01 pass over
+-- what each check of a call gives; `none` where it passes, and where the call has no such argument.
+-- Those marked (02) are positions for the checks of document 02, which the calls of document 01
+-- pass over
 pub record Checks : Type 0 where
   pub settings : Option Refusal  -- 1
   pub arguments : Option Refusal  -- 9, 10 and 12, of a state, a window or groups (02)

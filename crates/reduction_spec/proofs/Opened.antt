@@ -1,4 +1,5 @@
--- One name for all definitions of this layer and of those below it: a proof by computation says `unfolding opened`.
+-- One name for all definitions of this layer and of those below it: a proof by computation says
+-- `unfolding opened`.
 -- Assumes nothing.
 use lib.Count.{ones}
 use Rattle.reduction_spec.specs.Unions.{joinAll, samePlace, compose, isUnion}

@@ -1,4 +1,5 @@
--- Reducing a list: what is kept, what the call answers and what it leaves in the second buffer. Document 01, "Thinning and writing", thinning.
+-- Reducing a list: what is kept, what the call answers and what it leaves in the second buffer.
+-- Document 01, "Thinning and writing", thinning.
 -- Assumes nothing.
 use Prim.Native.Nat.{ℕ}
 use mathlib.Core.Bool.{Bool, not}
@@ -15,7 +16,8 @@ use Rattle.reduction_spec.specs.declared.Reduced.{Reduced}
 use Rattle.reduction_spec.specs.declared.Reduced.the-variants.{Kept, Refused}
 use Rattle.reduction_spec.specs.Unions.{isUnion}
 
--- a word is redundant, and dropped, exactly if its place is the union of two or more non-overlapping places of the list
+-- a word is redundant, and dropped, exactly if its place is the union of two or more
+-- non-overlapping places of the list
 unfoldable pub redundant : List ℕ → ℕ → Bool
 redundant words w = isUnion words (placeOf w)
 
@@ -40,7 +42,8 @@ unfoldable pub reducedValue : Reduced → ℕ
 reducedValue (Kept count) = 0
 reducedValue (Refused r) = value r
 
--- what the second buffer holds on return: the kept words, then its old tail; after a refusal, what it held before
+-- what the second buffer holds on return: the kept words, then its old tail; after a refusal, what
+-- it held before
 unfoldable pub reducedAfter : List ℕ → List ℕ → List ℕ
 reducedAfter words before =
     answer (λ (r : Refusal). before) (reductionRefusal words (length before)) (overwrite (reducedWords words) before)

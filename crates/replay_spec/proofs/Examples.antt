@@ -1,5 +1,6 @@
--- The definitions of balances and judgements, tried on the source's own examples: the two traces discussed after Definition 5 with the five
--- places of its Figure 1, the log of that figure, and traces and places of Figure 3, where activities stand in both sets of a place.
+-- The definitions of balances and judgements, tried on the source's own examples: the two traces
+-- discussed after Definition 5 with the five places of its Figure 1, the log of that figure, and
+-- traces and places of Figure 3, where activities stand in both sets of a place.
 -- Assumes nothing.
 use Prim.Native.Nat.{ℕ}
 use mathlib.Core.Path.{_≡_, refl}
@@ -59,7 +60,8 @@ pub record LogExamples : Type 0 where
   pub figure-3 :
       map (verdict 0 (framesOf figure3Log)) (place 0x0005 0x000C ∷ place 0x0004 0x0010 ∷ place 0x0018 0x0012 ∷ [])
       ≡ Fitting ∷ Fitting ∷ Fitting ∷ []
-  -- from the start to a: a frame with one a fits, those with more underfeed the place, that with none overfeeds it
+  -- from the start to a: a frame with one a fits, those with more underfeed the place, that with
+  -- none overfeeds it
   pub counted : caseCounts (place 0x0001 0x0004) (framesOf figure3Log) ≡ counts 31 17 49 0
   -- from a and b to c: c comes first in the first frame, and not at all in the second
   pub both-counted : caseCounts (place 0x000C 0x0010) (framesOf (bytes "00020004020301\n0001000201\n")) ≡ counts 0 0 1 2

@@ -1,4 +1,5 @@
--- One name for all definitions of this layer and of those below it: a proof by computation says `unfolding opened`.
+-- One name for all definitions of this layer and of those below it: a proof by computation says
+-- `unfolding opened`.
 -- Assumes nothing.
 use Rattle.replay_spec.specs.Balance.{count, balanceAt, leastOf, leastBalance, lastBalance, underfeeds, overfeeds}
 use Rattle.replay_spec.specs.Judgement.{casesWhere, caseCounts, underfedCases, overfedCases, exceeds, verdictOf, verdict, mark}

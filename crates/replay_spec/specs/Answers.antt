@@ -1,4 +1,5 @@
--- What replaying and judging answer, refusals included. Document 01, "Tokens in one trace" and the order of checks.
+-- What replaying and judging answer, refusals included. Document 01, "Tokens in one trace" and the
+-- order of checks.
 -- Assumes nothing.
 use Prim.Native.Nat.{ℕ}
 use mathlib.Core.List.{List, []}

@@ -1,4 +1,5 @@
--- Judging a place over a log. Document 01, "Tokens in one trace", second paragraph; the source's Definition 13 with its strict comparison.
+-- Judging a place over a log. Document 01, "Tokens in one trace", second paragraph; the source's
+-- Definition 13 with its strict comparison.
 -- Assumes nothing.
 use Prim.Native.Nat.{ℕ, _+_, _*_}
 use mathlib.Core.Bool.{Bool, true, false, not, _&&_}
@@ -56,7 +57,8 @@ verdictOf T total c = verdictWhere (exceeds T total (underfedCases c)) (exceeds 
 unfoldable pub verdict : ℕ → List Frame → Place → Verdict
 verdict T frames p = verdictOf T (totalCases frames) (caseCounts p frames)
 
--- the number of a verdict, which marks the word of a rejected place: 1 underfed, 2 overfed, 3 both, and 0 of a fitting one
+-- the number of a verdict, which marks the word of a rejected place: 1 underfed, 2 overfed, 3 both,
+-- and 0 of a fitting one
 unfoldable pub mark : Verdict → ℕ
 mark Fitting = 0
 mark Underfed = 1

@@ -1,9 +1,11 @@
-// The types of what replaying and judging answer: document 01, "Tokens in one trace". The only code is the number of a verdict.
+// The types of what replaying and judging answer: document 01, "Tokens in one trace". The only code
+// is the number of a verdict.
 ghost use mathlib.Core.Path.{_≡_};
 ghost use Rattle.replay_spec.specs.Judgement.{mark};
 use limits::Refusal;
 
-// What replaying the first trace of a log answers: the least balance and the balance after the last event, the low and the end of document 01.
+// What replaying the first trace of a log answers: the least balance and the balance after the last
+// event, the low and the end of document 01.
 pub enum Replayed {
     Balances { least: i16, last: i16 },
     Refused(Refusal),

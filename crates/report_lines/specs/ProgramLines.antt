@@ -1,5 +1,6 @@
--- The lines of the program placelist, as its code reads and writes them: the settings frame of an input, and the last line from what a run answers.
--- Document 01, "Thinning and writing", last paragraph.
+-- The lines of the program placelist, as its code reads and writes them: the settings frame of an
+-- input, and the last line from what a run answers. Document 01, "Thinning and writing", last
+-- paragraph.
 -- Assumes nothing.
 use Prim.Native.Nat.{ℕ}
 use mathlib.Core.Bool.{cond}

@@ -1,4 +1,5 @@
-// The first line of the input, the settings frame: document 01, "Thinning and writing", last paragraph.
+// The first line of the input, the settings frame: document 01, "Thinning and writing", last
+// paragraph.
 ghost use mathlib.Core.Path.{_≡_};
 ghost use Rattle.report_lines.specs.ProgramLines.{settingsFrameIn};
 use crate::BOUND_DIGITS;

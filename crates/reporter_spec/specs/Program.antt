@@ -1,4 +1,5 @@
--- The program placelist, from the bytes that it reads to the bytes that it writes. Document 01, "Thinning and writing", last paragraph.
+-- The program placelist, from the bytes that it reads to the bytes that it writes. Document 01,
+-- "Thinning and writing", last paragraph.
 -- Assumes nothing.
 use Prim.Native.Nat.{ℕ, _+_, _*_}
 use mathlib.Core.Bool.{Bool, not, cond, _&&_}
@@ -57,7 +58,8 @@ settingsIn input =
 unfoldable pub logIn : List ℕ → List ℕ
 logIn input = drop (settingsDigits + 1) input
 
--- first an input that is too long (oversize, line 0), then the form of the settings frame (number 1), then what the search refuses
+-- first an input that is too long (oversize, line 0), then the form of the settings frame (number
+-- 1), then what the search refuses
 unfoldable pub programRefusal : List ℕ → Option Refusal
 programRefusal input =
     firstOf

@@ -8,7 +8,8 @@ use Rattle.rulings.specs.Rulings.{rulingOf}
 use Rattle.rulings.proofs.Opened.{opened}
 
 pub record RulingExamples : Type 0 where
-  -- no word rules; one does so from either side; where words rule it both ways, overfed is the answer
+  -- no word rules; one does so from either side; where words rule it both ways, overfed is the
+  -- answer
   pub no-word : rulingOf [] (place 1 2) ≡ Unruled
   pub other-place : rulingOf (0x300080008 ∷ []) (place 5 6) ≡ Unruled
   pub lighter : rulingOf (0x100020005 ∷ []) (place 5 6) ≡ AsUnderfed

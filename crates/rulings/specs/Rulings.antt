@@ -1,4 +1,5 @@
--- Which way the words of rejected places rule a candidate, as one answer. Document 01, "The walk", second and last paragraphs.
+-- Which way the words of rejected places rule a candidate, as one answer. Document 01, "The walk",
+-- second and last paragraphs.
 -- Assumes nothing.
 use Prim.Native.Nat.{ℕ}
 use mathlib.Core.Bool.{cond}
@@ -9,6 +10,7 @@ use Rattle.discovery_spec.specs.Rejected.{rulesUnderfed, ruledOverfed}
 use Rattle.rulings.specs.declared.Ruling.{Ruling}
 use Rattle.rulings.specs.declared.Ruling.the-variants.{Unruled, AsUnderfed, AsOverfed}
 
--- which way the words rule c: as overfed where any does, since that also decides about its descendants, else as underfed, or not at all
+-- which way the words rule c: as overfed where any does, since that also decides about its
+-- descendants, else as underfed, or not at all
 unfoldable pub rulingOf : List ℕ → Place → Ruling
 rulingOf rejected c = cond (ruledOverfed rejected c) AsOverfed (cond (any (rulesUnderfed c) rejected) AsUnderfed Unruled)

@@ -17,7 +17,8 @@ pub record StepExamples : Type 0 where
   pub takes-first : afterEvent (place 0x0004 0x0004) (tokens (pos 0) (pos 0)) 2 ≡ tokens (pos 0) (negsuc 0)
   pub gives : afterEvent (place 0x0004 0x0008) (tokens (pos 2) (negsuc 0)) 2 ≡ tokens (pos 3) (negsuc 0)
   pub not-touched : afterEvent (place 0x0004 0x0008) (tokens (pos 2) (negsuc 0)) 5 ≡ tokens (pos 2) (negsuc 0)
-  -- the set of the codes 0, 9, 10 and 15, whose digits end in 16, 25, 1 and 6; the digit A, of code 10
+  -- the set of the codes 0, 9, 10 and 15, whose digits end in 16, 25, 1 and 6; the digit A, of code
+  -- 10
   pub set-by-digit : byDigit 0x8601 ≡ 0x02010042
   pub gives-by-digit : afterDigit (digitSets (place 0x0400 0x0008)) (tokens (pos 2) (negsuc 0)) 65 ≡ tokens (pos 3) (negsuc 0)
 

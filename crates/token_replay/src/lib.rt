@@ -11,7 +11,8 @@ ghost use Rattle.event_log_spec.specs.Frames.{mostEvents};
 ghost use Rattle.token_replay.specs.Tokens.{byDigit, digitSets, afterDigit, afterTrace, codesIn};
 use places::Place;
 
-// The token balance after the events so far, and the least balance at any of them, 0 before the first: the low of document 01 at the end.
+// The token balance after the events so far, and the least balance at any of them, 0 before the
+// first: the low of document 01 at the end.
 pub struct Tokens {
     pub balance: i16,
     pub least: i16,
@@ -23,7 +24,8 @@ pub struct DigitSets {
     pub outputs: u32,
 }
 
-// A set of codes as a set of digits, each by the last five bits of its byte: of 0 to 9 these are 16 to 25, and of A to F 1 to 6.
+// A set of codes as a set of digits, each by the last five bits of its byte: of 0 to 9 these are 16
+// to 25, and of A to F 1 to 6.
 fn by_digit(set: u16) -> u32
     ensures { λ r. ⌜ r ≡ byDigit set ⌝ }
 {
@@ -40,7 +42,8 @@ pub fn digit_sets(place: Place) -> DigitSets
     }
 }
 
-// The tokens after one more event: it takes before it gives, so that an activity in both sets does not feed itself.
+// The tokens after one more event: it takes before it gives, so that an activity in both sets does
+// not feed itself.
 fn replay_event(tokens: Tokens, sets: DigitSets, digit: u8) -> Tokens
     requires { ⌜ mag (tokens .balance) ≤ 2 * mostEvents ⌝ }
     ensures { λ r. ⌜ r ≡ afterDigit sets tokens digit ⌝ }
@@ -61,8 +64,9 @@ fn replay_event(tokens: Tokens, sets: DigitSets, digit: u8) -> Tokens
     }
 }
 
-// The tokens after a trace, from its digits, two for each activity. Codes are below 16, so the second digit is the code. All events are
-// replayed, also after a token was missing, and two in a turn, which takes fewer steps.
+// The tokens after a trace, from its digits, two for each activity. Codes are below 16, so the
+// second digit is the code. All events are replayed, also after a token was missing, and two in a
+// turn, which takes fewer steps.
 pub fn replay_trace(digits: &[u8], sets: DigitSets) -> Tokens
     requires { ⌜ (length (now digits) ≤ 2 * mostEvents) × (all isDigit (now digits) ≡ true) ⌝ }
     ensures { λ r. ⌜ ((place : Place) → sets ≡ digitSets place → r ≡ afterTrace place (codesIn (now (digits .entry)))) ⌝ }

@@ -1,5 +1,7 @@
--- Demand 3 holds of the definitions: of what a caller sees of any two runs and reductions that go as written. What a caller sees is what the runs came
--- to, so the law of any two runs gives all that is about runs; and a completed run found the fitting candidates, whose words the reduction takes.
+-- Demand 3 holds of the definitions: of what a caller sees of any two runs and reductions that go
+-- as written. What a caller sees is what the runs came to, so the law of any two runs gives all
+-- that is about runs; and a completed run found the fitting candidates, whose words the reduction
+-- takes.
 -- Assumes nothing.
 use Prim.Native.Nat.{ℕ}
 use mathlib.Core.Path.{_≡_, _∙_}

@@ -1,5 +1,6 @@
--- The words of the fitting candidates stand for exactly these places, each once and in order, since words can be read back. So each stands for a
--- place that a call without settings takes, and whether it is a union can be tested; the reduction then keeps exactly the words whose place is no
+-- The words of the fitting candidates stand for exactly these places, each once and in order, since
+-- words can be read back. So each stands for a place that a call without settings takes, and
+-- whether it is a union can be tested; the reduction then keeps exactly the words whose place is no
 -- union, in the order of the list.
 -- Assumes nothing.
 use Prim.Native.Nat.{ℕ, _≤_}

@@ -1,6 +1,7 @@
--- What a caller sees of a run that is not refused. The answer carries the run, complete or not, and the list begins with the words that the run found;
--- if it is complete, the answer and the second buffer are what the reduction of those words answers and leaves. All of this is in the definitions: of
--- their cases one is left once nothing is refused.
+-- What a caller sees of a run that is not refused. The answer carries the run, complete or not, and
+-- the list begins with the words that the run found; if it is complete, the answer and the second
+-- buffer are what the reduction of those words answers and leaves. All of this is in the
+-- definitions: of their cases one is left once nothing is refused.
 -- Assumes nothing.
 use Prim.Native.Nat.{ℕ}
 use mathlib.Core.Path.{_≡_, refl}

@@ -1,5 +1,6 @@
--- `cover_choice::choose` meets its contract: what no word or too few words can cover is what is left without those that enough can, and the
--- highest of it is an activity with the fewest choices; where words are not balanced there is no cover.
+-- `cover_choice::choose` meets its contract: what no word or too few words can cover is what is
+-- left without those that enough can, and the highest of it is an activity with the fewest choices;
+-- where words are not balanced there is no cover.
 -- Assumes nothing.
 use Prim.Native.Nat.{ℕ, _-_, _≤_, _<_}
 use native.Mathlib.Omega.{arith}

@@ -1,5 +1,5 @@
--- `cover_choice::count_choices` meets its contract. The loop's invariant: the words before the index were counted. The measure is what is left of
--- the words.
+-- `cover_choice::count_choices` meets its contract. The loop's invariant: the words before the
+-- index were counted. The measure is what is left of the words.
 -- Assumes nothing.
 use Prim.Native.Nat.{_-_}
 use native.Mathlib.Omega.{arith}

@@ -1,5 +1,5 @@
--- `cover_choice::count_word` meets its contract. The loop's invariant: the activities of the word that are not in the rest were counted. The
--- measure is the rest.
+-- `cover_choice::count_word` meets its contract. The loop's invariant: the activities of the word
+-- that are not in the rest were counted. The measure is the rest.
 -- Assumes nothing.
 use native.Mathlib.Omega.{arith}
 use Rattle.cover_choice.proofs.laws.CountingWord.{held-bit, bit-le, bit-less, CountedBut, none-counted, has-room, count-bit, word-counted}

@@ -1,4 +1,5 @@
--- `cover_choice::highest_of` meets its contract: the zeros above the highest bit, that bit and those below it are 32.
+-- `cover_choice::highest_of` meets its contract: the zeros above the highest bit, that bit and
+-- those below it are 32.
 -- Assumes nothing.
 use native.Mathlib.Omega.{arith}
 use mathlib.Core.Path.{subst}

@@ -1,5 +1,5 @@
--- `cover_choice::is_balanced` meets its contract. The loop's invariant: what is known is so of the words before the index. The measure is what is left
--- of the words.
+-- `cover_choice::is_balanced` meets its contract. The loop's invariant: what is known is so of the
+-- words before the index. The measure is what is left of the words.
 -- Assumes nothing.
 use Prim.Native.Nat.{_+_, _-_, _*_}
 use native.Mathlib.Omega.{arith}

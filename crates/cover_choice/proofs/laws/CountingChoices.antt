@@ -1,5 +1,5 @@
--- The words that can be the next part and cover an activity, counted one word after the other: a word that can be the next part adds one to the
--- choices of each of its activities.
+-- The words that can be the next part and cover an activity, counted one word after the other: a
+-- word that can be the next part adds one to the choices of each of its activities.
 -- Assumes nothing.
 use Prim.Native.Nat.{ℕ, _+_, _^_, _≤_, _<_}
 use native.Mathlib.Numerals.{add-one}

@@ -1,4 +1,5 @@
--- The highest bit of a number: the one that is at most the number and more than its half. There is none above it.
+-- The highest bit of a number: the one that is at most the number and more than its half. There is
+-- none above it.
 -- Assumes nothing.
 use Prim.Native.Nat.{ℕ, suc, _^_, _≤_, _<_}
 use native.Mathlib.Omega.{arith}

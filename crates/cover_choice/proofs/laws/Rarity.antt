@@ -1,7 +1,8 @@
--- The choice of the activity to cover next from what was tallied. Activities that some word can cover are left, since such a word is a part of what
--- is left. So where they are not all that is left there is no cover; and else an activity that is not among those that two words can cover has
--- exactly one choice, and no activity that is left has fewer. Likewise with two. Where the tally does not tell, the choices of every activity are
--- counted.
+-- The choice of the activity to cover next from what was tallied. Activities that some word can
+-- cover are left, since such a word is a part of what is left. So where they are not all that is
+-- left there is no cover; and else an activity that is not among those that two words can cover has
+-- exactly one choice, and no activity that is left has fewer. Likewise with two. Where the tally
+-- does not tell, the choices of every activity are counted.
 -- Assumes nothing.
 use Prim.Native.Nat.{ℕ, _+_, _-_, _^_, _≤_, _<_, min}
 use native.Mathlib.Omega.{arith}

@@ -1,5 +1,5 @@
--- `cover_choice::rarest_of` meets its contract. The loop's invariant: of the activities before the next one none that is left has fewer choices. The
--- measure is what is left of the 32.
+-- `cover_choice::rarest_of` meets its contract. The loop's invariant: of the activities before the
+-- next one none that is left has fewer choices. The measure is what is left of the 32.
 -- Assumes nothing.
 use Prim.Native.Nat.{_-_}
 use native.Mathlib.Omega.{arith}

@@ -1,5 +1,5 @@
--- `cover_choice::tally_of` meets its contract. The loop's invariant: what was counted is the tally of the words before the index. The measure is
--- what is left of the words.
+-- `cover_choice::tally_of` meets its contract. The loop's invariant: what was counted is the tally
+-- of the words before the index. The measure is what is left of the words.
 -- Assumes nothing.
 use Prim.Native.Nat.{_-_, _≤_}
 use native.Mathlib.Numerals.{add-one}

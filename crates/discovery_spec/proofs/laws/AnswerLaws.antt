@@ -1,6 +1,7 @@
--- What holds of the answer of the search call, whatever the log: it ends with 0, 1 or 2, no more words are found and rejected than there is room for,
--- replays are within the budget and no more than visits, and visits are no more than candidates. An answer as defined has the number and the value of
--- the call's refusal.
+-- What holds of the answer of the search call, whatever the log: it ends with 0, 1 or 2, no more
+-- words are found and rejected than there is room for, replays are within the budget and no more
+-- than visits, and visits are no more than candidates. An answer as defined has the number and the
+-- value of the call's refusal.
 -- Assumes nothing.
 use Prim.Native.Nat.{ℕ, _≤_}
 use native.Mathlib.Omega.{arith}

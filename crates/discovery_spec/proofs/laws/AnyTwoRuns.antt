@@ -1,6 +1,7 @@
--- The claim about two runs on a log under settings that are not refused. The settings are in range, so the candidates are listed as stated and their
--- words tell them apart; the log is written in frames of known activities, so verdicts over it are monotone; and what holds of any two searches over
--- a list of candidates by a monotone verdict holds of these.
+-- The claim about two runs on a log under settings that are not refused. The settings are in range,
+-- so the candidates are listed as stated and their words tell them apart; the log is written in
+-- frames of known activities, so verdicts over it are monotone; and what holds of any two searches
+-- over a list of candidates by a monotone verdict holds of these.
 -- Assumes nothing.
 use Prim.Native.Nat.{ℕ, _≤_}
 use mathlib.Core.Path.{_≡_, refl}
@@ -110,7 +111,8 @@ module _ (s : Settings) (text : List ℕ) where
             all-fitting = fitting-listed;
           }
 
--- of any two runs that are not refused, the second with at least the room and the budget of the first
+-- of any two runs that are not refused, the second with at least the room and the budget of the
+-- first
 pub two-runs : (s : Settings) (text : List ℕ) (first second : Capacity) → runRefusal s text ≡ none → AtLeast first second
     → TwoRuns s text first second
 two-runs s text first second pass more = claim s text (suitable s text pass) first second more

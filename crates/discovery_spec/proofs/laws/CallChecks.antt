@@ -1,5 +1,6 @@
--- The checks of the search call: settings out of their ranges are refused first, and then the log decides. Where nothing is refused, the settings are
--- in their ranges and the text is a log, so that the search can be made.
+-- The checks of the search call: settings out of their ranges are refused first, and then the log
+-- decides. Where nothing is refused, the settings are in their ranges and the text is a log, so
+-- that the search can be made.
 -- Assumes nothing.
 use Prim.Native.Nat.{ℕ}
 use mathlib.Core.Path.{_≡_, _∙_}

@@ -1,5 +1,6 @@
--- Room for more rejected words changes nothing in a run that never filled the room it had: the cache of rejected words only grows, so one
--- that is not full at the end was full at no step, and a step asks of its room only whether one word more fits.
+-- Room for more rejected words changes nothing in a run that never filled the room it had: the
+-- cache of rejected words only grows, so one that is not full at the end was full at no step, and a
+-- step asks of its room only whether one word more fits.
 -- Assumes nothing.
 use Prim.Native.Nat.{ℕ, _≤_, _<_}
 use native.Mathlib.Omega.{arith}

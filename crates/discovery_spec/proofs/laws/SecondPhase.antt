@@ -1,6 +1,8 @@
--- The second of two runs over the same candidates is ahead of the first: the first cache is full, the second run's cache and pruned candidates cover
--- the first run's, both have found the same, and the second has no more replays and visits. It stays so whatever the two make of a candidate, as long
--- as both go on. The first cache has no room, so the first run never rules more than it did, and prunes only what the second prunes too.
+-- The second of two runs over the same candidates is ahead of the first: the first cache is full,
+-- the second run's cache and pruned candidates cover the first run's, both have found the same, and
+-- the second has no more replays and visits. It stays so whatever the two make of a candidate, as
+-- long as both go on. The first cache has no room, so the first run never rules more than it did,
+-- and prunes only what the second prunes too.
 -- Assumes nothing.
 use Prim.Native.Nat.{ℕ, _≤_}
 use native.Mathlib.Nat.{le-refl}

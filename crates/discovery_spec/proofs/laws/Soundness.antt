@@ -1,6 +1,7 @@
--- A run never judges a candidate wrongly without replaying it, where verdicts are monotone: each word of the cache carries the verdict of its place,
--- so what it rules is so; and whatever is pruned is ruled overfed by the cache, since it is heavier than a candidate that is. Hence no fitting
--- candidate is ruled or pruned.
+-- A run never judges a candidate wrongly without replaying it, where verdicts are monotone: each
+-- word of the cache carries the verdict of its place, so what it rules is so; and whatever is
+-- pruned is ruled overfed by the cache, since it is heavier than a candidate that is. Hence no
+-- fitting candidate is ruled or pruned.
 -- Assumes nothing.
 use Prim.Native.Nat.{ℕ}
 use mathlib.Core.Path.{_≡_, refl}

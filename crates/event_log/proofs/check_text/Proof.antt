@@ -1,4 +1,5 @@
--- `event_log::check_text` meets its contract: a text of no bytes is refused, and of any other the lines decide.
+-- `event_log::check_text` meets its contract: a text of no bytes is refused, and of any other the
+-- lines decide.
 -- Assumes nothing.
 use mathlib.Core.Path.{sym, _∙_}
 use native.Mathlib.Omega.{arith}

@@ -1,5 +1,6 @@
--- The frames of a log from one line on up to another: up to the line itself there is none, one line further there is the frame of that line more, and from the first line up to the number of
--- frames there are all.
+-- The frames of a log from one line on up to another: up to the line itself there is none, one line
+-- further there is the frame of that line more, and from the first line up to the number of frames
+-- there are all.
 -- Assumes nothing.
 use Prim.Native.Nat.{ℕ, suc, _+_, _-_, _≤_, _<_}
 use native.Mathlib.Nat.{sub-zero}

@@ -1,5 +1,6 @@
--- What the index says of a log's frames: a frame's word gives its cases, and where its activity digits are in the text. The frames before it take as many
--- bytes as their words say, so the word found is that of the frame at its line.
+-- What the index says of a log's frames: a frame's word gives its cases, and where its activity
+-- digits are in the text. The frames before it take as many bytes as their words say, so the word
+-- found is that of the frame at its line.
 -- Assumes nothing.
 use Prim.Native.Nat.{ℕ, zero, suc, _+_, _-_, _*_, _/_, _%_, _≤_, _<_}
 use native.Mathlib.Omega.{arith}

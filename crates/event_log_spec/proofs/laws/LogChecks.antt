@@ -1,5 +1,6 @@
--- The checks of a call on a log: nothing is refused exactly when its settings and its place pass, the text has a byte, and no line has a
--- fault; where all but the lines pass, the lines decide. Checking a log takes A alone, so its settings pass when A is in its range.
+-- The checks of a call on a log: nothing is refused exactly when its settings and its place pass,
+-- the text has a byte, and no line has a fault; where all but the lines pass, the lines decide.
+-- Checking a log takes A alone, so its settings pass when A is in its range.
 -- Assumes nothing.
 use Prim.Native.Nat.{ℕ, _≤_}
 use native.Mathlib.Omega.{arith}
@@ -69,7 +70,8 @@ module _ (A : ℕ) (text : List ℕ) where
   unfolding checked boundFault logRefusal firstRefusal
   bound-refused e = rw e
 
--- a check answers with a refusal exactly when it was given it, and accepts only where it was given none
+-- a check answers with a refusal exactly when it was given it, and accepts only where it was given
+-- none
 pub answer-refused : (o : Option Refusal) (n N : ℕ) (r : Refusal) → (answer Refused o (Accepted n N) ≡ Refused r) ↔ (o ≡ some r)
 answer-refused none n N r = (λ e. impossible (cc), λ e. impossible (cc))
 answer-refused (some s) n N r = (λ e. cc, λ e. cc)

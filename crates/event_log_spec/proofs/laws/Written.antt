@@ -1,6 +1,7 @@
--- A log is accepted exactly when it is built from frames in the written form, and then the answer gives the number and the cases of the
--- frames that it was built from; there is only one list of such frames. A text without a fault is its lines one after the other, each of
--- them a frame's; and the lines of a written log are its frames', none of which has a fault.
+-- A log is accepted exactly when it is built from frames in the written form, and then the answer
+-- gives the number and the cases of the frames that it was built from; there is only one list of
+-- such frames. A text without a fault is its lines one after the other, each of them a frame's; and
+-- the lines of a written log are its frames', none of which has a fault.
 -- Assumes nothing.
 use Prim.Native.Nat.{ℕ, suc, _+_, _≤_}
 use native.Mathlib.Omega.{arith}

@@ -1,6 +1,6 @@
--- `exact_cover::is_covered` meets its contract. It calls itself on what a word leaves: the measure is
--- the number of activities that are left, which falls when a word is taken away. The invariant of the
--- loop: the words before the index were tried in vain.
+-- `exact_cover::is_covered` meets its contract. It calls itself on what a word leaves: the measure
+-- is the number of activities that are left, which falls when a word is taken away. The invariant
+-- of the loop: the words before the index were tried in vain.
 -- Assumes nothing.
 use Prim.Native.Nat.{ℕ, _-_, _<_}
 use native.Mathlib.Omega.{arith}

@@ -1,5 +1,6 @@
--- The number and the value of an answer that is a refusal or a result: they are those of the refusal, where the answer keeps its refusal's own and a
--- result has 0 and 0. By whether there is a refusal.
+-- The number and the value of an answer that is a refusal or a result: they are those of the
+-- refusal, where the answer keeps its refusal's own and a result has 0 and 0. By whether there is a
+-- refusal.
 -- Assumes nothing.
 use Prim.Native.Nat.{ℕ}
 use mathlib.Core.Path.{_≡_}

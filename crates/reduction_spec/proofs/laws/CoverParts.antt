@@ -1,5 +1,6 @@
--- For a cover of what is left of a whole only the words matter that can be parts of it: each word of the cover is a part of what is left when it is taken
--- away, which is a part of what was left before.
+-- For a cover of what is left of a whole only the words matter that can be parts of it: each word
+-- of the cover is a part of what is left when it is taken away, which is a part of what was left
+-- before.
 -- Assumes nothing.
 use Prim.Native.Nat.{ℕ, _-_}
 use native.Mathlib.Omega.{arith}

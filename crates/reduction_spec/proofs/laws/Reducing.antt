@@ -1,6 +1,8 @@
--- The reduction of words that each stand for a place, with a second buffer that has room for all of them, is not refused: it answers how many words it
--- kept, and they can be taken from the front of that buffer. Other reductions are refused, for the first word that stands for no place or else for
--- want of room, and leave the buffer as it was. An answer as defined has the number and the value of the call's refusal.
+-- The reduction of words that each stand for a place, with a second buffer that has room for all of
+-- them, is not refused: it answers how many words it kept, and they can be taken from the front of
+-- that buffer. Other reductions are refused, for the first word that stands for no place or else
+-- for want of room, and leave the buffer as it was. An answer as defined has the number and the
+-- value of the call's refusal.
 -- Assumes nothing.
 use Prim.Native.Nat.{ℕ, _≤_, _<_}
 use mathlib.Core.Path.{_≡_, refl}

@@ -1,5 +1,6 @@
--- Replaying a frame from its activity digits: they are digits, few enough for a balance of 16 bits, and the codes in them are the frame's trace. The case
--- counts of some frames of a log leave room for those of one more.
+-- Replaying a frame from its activity digits: they are digits, few enough for a balance of 16 bits,
+-- and the codes in them are the frame's trace. The case counts of some frames of a log leave room
+-- for those of one more.
 -- Assumes nothing.
 use Prim.Native.Nat.{ℕ, _+_, _-_, _*_, _^_, _≤_, _<_}
 use native.Mathlib.Omega.{arith}

@@ -1,5 +1,6 @@
--- What holds of the answers of replaying and judging, whatever was asked: the balances keep the ranges of document 01, and the four case counts add
--- up to N. An answer that is no refusal is of an accepted log, whose traces are short and whose cases are all counted. An answer as defined has
+-- What holds of the answers of replaying and judging, whatever was asked: the balances keep the
+-- ranges of document 01, and the four case counts add up to N. An answer that is no refusal is of
+-- an accepted log, whose traces are short and whose cases are all counted. An answer as defined has
 -- the number and the value of the call's refusal.
 -- Assumes nothing.
 use Prim.Native.Nat.{ℕ, _≤_}

@@ -1,4 +1,5 @@
--- The bytes of the lines that placelist writes after a listing: each part has its number of digits, and a line feed follows.
+-- The bytes of the lines that placelist writes after a listing: each part has its number of digits,
+-- and a line feed follows.
 -- Assumes nothing.
 use mathlib.Core.Path.{_≡_}
 use lib.ListN.{length, length-append}

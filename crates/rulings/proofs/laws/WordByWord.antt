@@ -1,5 +1,5 @@
--- Which way some words rule a candidate, found one word after the other: a word that rules it overfed decides at once; else it is enough to know
--- whether one so far ruled it underfed.
+-- Which way some words rule a candidate, found one word after the other: a word that rules it
+-- overfed decides at once; else it is enough to know whether one so far ruled it underfed.
 -- Assumes nothing.
 use Prim.Native.Nat.{ℕ, suc, _+_, _≤_, _<_}
 use mathlib.Core.Path.{_≡_, refl}

@@ -1,5 +1,5 @@
--- `rulings::ruling_by` meets its contract. The loop's invariant: the words from the index on, with what is known of those before, give the
--- ruling of all. The measure is what is left of the words.
+-- `rulings::ruling_by` meets its contract. The loop's invariant: the words from the index on, with
+-- what is known of those before, give the ruling of all. The measure is what is left of the words.
 -- Assumes nothing.
 use Prim.Native.Nat.{_-_, _≤_}
 use native.Mathlib.Omega.{arith}

@@ -1,4 +1,5 @@
--- `token_replay::by_digit` meets its contract: a set of 16 bits has six bits from bit 10 on, and no part of the sum exceeds 32 bits.
+-- `token_replay::by_digit` meets its contract: a set of 16 bits has six bits from bit 10 on, and no
+-- part of the sum exceeds 32 bits.
 -- Assumes nothing.
 use native.Mathlib.Omega.{arith}
 use borrow.Author.Needs.{needs}

@@ -1,4 +1,5 @@
--- `token_replay::replay_event` meets its contract: its numbers fit 16 bits, so the bits read back are the definition's integers.
+-- `token_replay::replay_event` meets its contract: its numbers fit 16 bits, so the bits read back
+-- are the definition's integers.
 -- Assumes nothing.
 use borrow.Author.Needs.{needs}
 use Rattle.token_replay.proofs.laws.EventBits.{taken-fits, given-fits, least-stays, least-falls}

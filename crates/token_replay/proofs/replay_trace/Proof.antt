@@ -1,5 +1,6 @@
--- `token_replay::replay_trace` meets its contract. The loop's invariant: for every place whose sets these are, replaying what is left of the trace
--- from here gives what replaying all of it gives from the start; and the balance is no larger than the place in the digits. One event more leaves
+-- `token_replay::replay_trace` meets its contract. The loop's invariant: for every place whose sets
+-- these are, replaying what is left of the trace from here gives what replaying all of it gives
+-- from the start; and the balance is no larger than the place in the digits. One event more leaves
 -- it so, and a turn has two. The measure is what is left of the digits.
 -- Assumes nothing.
 use Prim.Native.Nat.{ℕ, _+_, _-_, _≤_, _<_}

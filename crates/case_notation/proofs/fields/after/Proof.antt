@@ -1,5 +1,5 @@
--- `case_notation::fields::after` meets its contract: the part begins behind the byte that the search finds,
--- or at the end.
+-- `case_notation::fields::after` meets its contract: the part begins behind the byte that the
+-- search finds, or at the end.
 -- Assumes nothing.
 use native.Mathlib.Omega.{arith}
 use borrow.Author.Needs.{needs}

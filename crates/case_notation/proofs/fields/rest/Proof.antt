@@ -1,5 +1,5 @@
--- `case_notation::fields::rest` meets its contract. The loop's invariant: what follows the words left to
--- pass from the index on is what follows all of them. The measure is how many are left.
+-- `case_notation::fields::rest` meets its contract. The loop's invariant: what follows the words
+-- left to pass from the index on is what follows all of them. The measure is how many are left.
 -- Assumes nothing.
 use Prim.Native.Nat.{_≤_}
 use native.Mathlib.Omega.{arith}

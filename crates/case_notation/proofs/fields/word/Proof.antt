@@ -1,4 +1,5 @@
--- `case_notation::fields::word` meets its contract: it is what stands before the first blank of the rest.
+-- `case_notation::fields::word` meets its contract: it is what stands before the first blank of the
+-- rest.
 -- Assumes nothing.
 use mathlib.Core.Path.{ap, _∙_}
 use borrow.Author.Needs.{needs}

@@ -1,6 +1,6 @@
--- `case_notation::lists::append_rising` meets its contract. The loop's invariant: what puts the words from
--- the present one on into the list as it is puts all of them into the list as it was. The measure
--- is how many are left.
+-- `case_notation::lists::append_rising` meets its contract. The loop's invariant: what puts the
+-- words from the present one on into the list as it is puts all of them into the list as it was.
+-- The measure is how many are left.
 -- Assumes nothing.
 use Prim.Native.Nat.{ℕ, _+_, _-_, _≤_}
 use native.Mathlib.Omega.{arith}

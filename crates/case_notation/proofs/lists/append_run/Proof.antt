@@ -1,5 +1,5 @@
--- `case_notation::lists::append_run` meets its contract: a word without a dash stands for itself, two with
--- it for all from one to the other.
+-- `case_notation::lists::append_run` meets its contract: a word without a dash stands for itself,
+-- two with it for all from one to the other.
 -- Assumes nothing.
 use borrow.Author.Needs.{needs}
 use Rattle.case_notation.proofs.laws.Pieces.{word-within, run-alone, run-between}

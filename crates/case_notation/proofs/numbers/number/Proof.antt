@@ -1,5 +1,5 @@
--- `case_notation::numbers::number` meets its contract. The loop's invariant: the value, with the digits
--- from the index on, is the number of all digits. The measure is what is left of the digits.
+-- `case_notation::numbers::number` meets its contract. The loop's invariant: the value, with the
+-- digits from the index on, is the number of all digits. The measure is what is left of the digits.
 -- Assumes nothing.
 use Prim.Native.Nat.{ℕ, _+_, _-_, _≤_}
 use native.Mathlib.Omega.{arith}

@@ -1,5 +1,5 @@
--- `case_notation::numbers::with_digit` meets its contract: a product of a number of 32 bits and a base of 8
--- fits 64.
+-- `case_notation::numbers::with_digit` meets its contract: a product of a number of 32 bits and a
+-- base of 8 fits 64.
 -- Assumes nothing.
 use Prim.Native.Nat.{_≤_}
 use native.Mathlib.Nat.{mul-le-mul-left}

@@ -1,5 +1,6 @@
--- `case_notation::runs::run_length` meets its contract. The loop's invariant: the words up to the index are
--- a run, and those that continue it make up the whole. The measure is what is left of the words.
+-- `case_notation::runs::run_length` meets its contract. The loop's invariant: the words up to the
+-- index are a run, and those that continue it make up the whole. The measure is what is left of the
+-- words.
 -- Assumes nothing.
 use Prim.Native.Nat.{_-_, _≤_}
 use native.Mathlib.Omega.{arith}

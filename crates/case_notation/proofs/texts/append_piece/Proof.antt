@@ -1,5 +1,5 @@
--- `case_notation::texts::append_piece` meets its contract: a piece without a star stands for its bytes, one
--- with it for those behind it.
+-- `case_notation::texts::append_piece` meets its contract: a piece without a star stands for its
+-- bytes, one with it for those behind it.
 -- Assumes nothing.
 use borrow.Author.Needs.{needs}
 use Rattle.case_notation.proofs.laws.Pieces.{piece-plain, piece-times}

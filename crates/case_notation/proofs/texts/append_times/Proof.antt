@@ -1,6 +1,6 @@
--- `case_notation::texts::append_times` meets its contract. The loop's invariant: what puts the bytes into
--- the buffer as it is as many times as are left puts them into the buffer as it was as many times
--- as asked for. The measure is how many are left.
+-- `case_notation::texts::append_times` meets its contract. The loop's invariant: what puts the
+-- bytes into the buffer as it is as many times as are left puts them into the buffer as it was as
+-- many times as asked for. The measure is how many are left.
 -- Assumes nothing.
 use Prim.Native.Nat.{ℕ, _≤_}
 use native.Mathlib.Omega.{arith}

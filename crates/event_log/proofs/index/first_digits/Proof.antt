@@ -1,4 +1,5 @@
--- `event_log::index::first_digits` meets its contract: the part from the count to the line feed has the digits of the first frame.
+-- `event_log::index::first_digits` meets its contract: the part from the count to the line feed has
+-- the digits of the first frame.
 -- Assumes nothing.
 use native.Mathlib.Omega.{arith}
 use borrow.Author.Needs.{needs}

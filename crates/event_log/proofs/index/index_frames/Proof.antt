@@ -1,5 +1,6 @@
--- `event_log::index::index_frames` meets its contract. The loop's invariant: the words of the frames before the index stand in front of the buffer, and
--- frames are left. The measure is what is left of the text.
+-- `event_log::index::index_frames` meets its contract. The loop's invariant: the words of the
+-- frames before the index stand in front of the buffer, and frames are left. The measure is what is
+-- left of the text.
 -- Assumes nothing.
 use Prim.Native.Nat.{_+_, _-_, _≤_, _<_}
 use native.Mathlib.Omega.{arith}

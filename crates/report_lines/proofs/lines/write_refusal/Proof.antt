@@ -1,4 +1,5 @@
--- `report_lines::lines::write_refusal` meets its contract: the digits of FF, of the number and of the value, and the line feed are the line.
+-- `report_lines::lines::write_refusal` meets its contract: the digits of FF, of the number and of
+-- the value, and the line feed are the line.
 -- Assumes nothing.
 use borrow.Author.Needs.{needs}
 use native.Mathlib.Omega.{arith}

@@ -1,4 +1,5 @@
--- `report_lines::lines::write_report` meets its contract: the last line goes behind the lines of the list, where there is room for it.
+-- `report_lines::lines::write_report` meets its contract: the last line goes behind the lines of
+-- the list, where there is room for it.
 -- Assumes nothing.
 use borrow.Author.Needs.{needs}
 use Prim.Native.Nat.{_+_, _≤_}

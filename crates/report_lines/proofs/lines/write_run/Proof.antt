@@ -1,4 +1,5 @@
--- `report_lines::lines::write_run` meets its contract: the digits of the end, of the replays and of the visits, and the line feed are the line.
+-- `report_lines::lines::write_run` meets its contract: the digits of the end, of the replays and of
+-- the visits, and the line feed are the line.
 -- Assumes nothing.
 use borrow.Author.Needs.{needs}
 use native.Mathlib.Omega.{arith}

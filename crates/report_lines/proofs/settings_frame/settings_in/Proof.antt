@@ -1,5 +1,5 @@
--- `report_lines::settings_frame::settings_in` meets its contract: the tests and the four numbers decide
--- as the frame is defined, and a number of two digits fits a byte, one of four 16 bits.
+-- `report_lines::settings_frame::settings_in` meets its contract: the tests and the four numbers
+-- decide as the frame is defined, and a number of two digits fits a byte, one of four 16 bits.
 -- Assumes nothing.
 use Prim.Native.Nat.{ℕ, _+_, _*_, _^_, _<_}
 use native.Mathlib.Omega.{arith}
