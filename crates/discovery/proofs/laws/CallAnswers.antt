@@ -71,7 +71,7 @@ module _ (s : Settings) (text rejected found : List ℕ) (budget : ℕ) where
     pub rejected-are : rejected-after ≡ rejectedAfter s text rejected found budget
     pub found-are : found-after ≡ foundAfter s text rejected found budget
 
-  -- these say the rest of the contract, as its clauses stand
+  -- the clauses of the contract, in their order
   abbrev pub Contract : Discovered → List ℕ → List ℕ → Type 0
   Contract d rejected-after found-after =
       (d ≡ discovered s text (capacityOf rejected found budget))
