@@ -2,6 +2,7 @@
 ghost use mathlib.Core.Path.{_≡_};
 ghost use lib.ListN.{drop};
 ghost use Rattle.event_log_spec.specs.Lines.{firstLine};
+ghost use Rattle.log_lines.specs.declared.Activities.the-variants.{Read};
 ghost use Rattle.log_lines.specs.Reading.{countIn, nextPhase, incomplete, activitiesIn, lineChecked};
 use crate::Activities;
 use crate::CODE_DIGITS;
@@ -70,23 +71,32 @@ pub fn is_misplaced(phase: Phase) -> bool
     }
 }
 
-// The activities of a line from the first one, which stands at `from`.
+// The activities of a line whose line feed stands at `end`, by where its trace stands there.
+pub fn ended_at(end: usize, phase: Phase, unknown: bool) -> Activities
+    ensures { λ r. ⌜ r ≡ Read end unknown (incomplete phase) ⌝ }
+{
+    Activities::Read {
+        end,
+        unknown,
+        misplaced: is_misplaced(phase),
+    }
+}
+
+// The activities of a line from the first one, which stands at `from`. Up to the last byte of the
+// text there are two digits to read, so that only that byte is left to look at after them.
 pub fn read_activities(activities: u8, text: &[u8], from: usize) -> Activities
     ensures { λ r. ⌜ r ≡ activitiesIn activities from (firstLine (drop from (now (text .entry)))) ⌝ }
 {
+    if text.len() <= from {
+        return Activities::Malformed;
+    }
+    let last = text.len() - 1;
     let mut at = from;
     let mut phase = Phase::Before;
     let mut unknown = false;
-    while at < text.len() {
+    while at < last {
         if text[at] == LINE_FEED {
-            return Activities::Read {
-                end: at,
-                unknown,
-                misplaced: is_misplaced(phase),
-            };
-        }
-        if text.len() - at < CODE_DIGITS {
-            return Activities::Malformed;
+            return ended_at(at, phase, unknown);
         }
         let digits = read_hex(&text[at..at + CODE_DIGITS]);
         let Number::Value(code) = digits else {
@@ -96,7 +106,14 @@ pub fn read_activities(activities: u8, text: &[u8], from: usize) -> Activities
         unknown = unknown | (activities as u64 <= code);
         at += CODE_DIGITS;
     }
-    Activities::Malformed
+    if last < at {
+        return Activities::Malformed;
+    }
+    if text[at] == LINE_FEED {
+        ended_at(at, phase, unknown)
+    } else {
+        Activities::Malformed
+    }
 }
 
 // The line that begins at `from` and has the index `line`.

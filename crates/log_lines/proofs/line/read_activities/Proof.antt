@@ -15,50 +15,65 @@ use Rattle.log_lines.proofs.line.read_activities.Statement.{statement}
 use Rattle.log_lines.proofs.line.read_activities.Tie as tie
 
 abbrev Inv-loop : tie.InvT-loop
-Inv-loop activities text from at₀ phase₀ unknown₀ at phase unknown =
+Inv-loop activities text from last at₀ phase₀ unknown₀ at phase unknown =
     scan activities at phase unknown (drop at text) ≡ scan activities from Before false (drop from text)
 
 abbrev μ-loop : tie.MeasureT-loop
-μ-loop activities text from at₀ phase₀ unknown₀ at phase unknown = length text - at
+μ-loop activities text from last at₀ phase₀ unknown₀ at phase unknown = length text - at
+
+returns : tie.Need-returns Inv-loop μ-loop
+returns c = sym (scan-end _ _ _ _ _ (c .if1 .taken)) ∙ scan-first _ _ _
 
 loop-holds : tie.Need-loop-holds Inv-loop μ-loop
 loop-holds c = refl
 
-returns : tie.Need-returns Inv-loop μ-loop
-returns c =
-    let t = c .before .before .before in
-    rw (c .is-misplaced .ensures)
-    (sym (scan-feed _ _ _ _ _ (t .loop-test .taken) (c .before .if1 .taken)) ∙ t .before .loop .inv ∙ scan-first _ _ _)
-
 returns-2 : tie.Need-returns-2 Inv-loop μ-loop
 returns-2 c =
     let t = c .before .before .before in
-    sym (scan-short _ _ _ _ _ (t .loop-test .taken) (c .if2 .taken) (c .before .if1 .left)) ∙ t .before .loop .inv ∙ scan-first _ _ _
+    c .ended-at .ensures
+    ∙ sym (scan-feed _ _ _ _ _ (omega (arith, t .loop-test .taken)) (c .before .if2 .taken))
+    ∙ t .before .loop .inv
+    ∙ scan-first _ _ _
 
 -- what the two digits at the index write
 read : (c : tie.After-read-hex Inv-loop μ-loop)
-    → let l = c .before .before .before .before .before .before in
-    c .read-hex .result ≡ numberIn (take 2 (drop (l .loop .at) (l .before .before .args .text .now)))
-read c = rw (add-sub-cancel-left (c .before .before .before .before .before .before .loop .at) 2) at (c .read-hex .ensures)
+    → let l = c .before .before .before .before .before in
+    c .read-hex .result ≡ numberIn (take 2 (drop (l .loop .at) (l .before .before .before .args .text .now)))
+read c = rw (add-sub-cancel-left (c .before .before .before .before .before .loop .at) 2) at (c .read-hex .ensures)
 
 returns-3 : tie.Need-returns-3 Inv-loop μ-loop
 returns-3 c =
     let p = c .before .before in
-    let d = p .before .before .before in
-    sym (scan-others _ _ _ _ _ (omega arith) (d .if1 .left) (sym (read p) ∙ c .enum-told .given .1))
+    let d = p .before .before in
+    sym (scan-others _ _ _ _ _ (omega arith) (d .if2 .left) (sym (read p) ∙ c .enum-told .given .1))
     ∙ d .before .before .before .loop .inv
     ∙ scan-first _ _ _
 
 loop-again : tie.Need-loop-again Inv-loop μ-loop
 loop-again c =
     let p = c .before .before .before .before in
-    let d = p .before .before .before in
+    let d = p .before .before in
     rw (c .advance .ensures)
-    (sym (scan-number _ _ _ _ _ _ (omega arith) (d .if1 .left) (sym (read p) ∙ c .before .before .digits .given .1))
+    (sym (scan-number _ _ _ _ _ _ (omega arith) (d .if2 .left) (sym (read p) ∙ c .before .before .digits .given .1))
     ∙ d .before .before .before .loop .inv)
 
 returns-4 : tie.Need-returns-4 Inv-loop μ-loop
-returns-4 c = sym (scan-end _ _ _ _ _ (c .loop-test .left)) ∙ c .before .loop .inv ∙ scan-first _ _ _
+returns-4 c = sym (scan-end _ _ _ _ _ (omega (arith, c .if3 .taken))) ∙ c .before .before .loop .inv ∙ scan-first _ _ _
+
+returns-5 : tie.Need-returns-5 Inv-loop μ-loop
+returns-5 c =
+    let d = c .before .before .before in
+    c .ended-at2 .ensures
+    ∙ sym (scan-feed _ _ _ _ _ (omega (arith, d .if3 .left)) (c .before .if4 .taken))
+    ∙ d .before .before .loop .inv
+    ∙ scan-first _ _ _
+
+returns-6 : tie.Need-returns-6 Inv-loop μ-loop
+returns-6 c =
+    let d = c .before .before in
+    sym (scan-short _ _ _ _ _ (omega (arith, d .if3 .left)) (omega (arith, d .before .loop-test .left)) (c .if4 .left))
+    ∙ d .before .before .loop .inv
+    ∙ scan-first _ _ _
 
 pub read-activities-spec : {M : Type 1} → statement M
 read-activities-spec =
@@ -66,11 +81,11 @@ read-activities-spec =
     (tie.spec
     Inv-loop
     μ-loop
-    loop-holds
-    (λ c. omega arith)  -- shared-slice-read-if1
-    (λ c κs. search needs)  -- is-misplaced-requires
     returns
-    (λ c. omega arith)  -- sub-if2
+    (λ c. omega arith)  -- sub-last
+    loop-holds
+    (λ c. omega arith)  -- shared-slice-read-if2
+    (λ c κs. search needs)  -- ended-at-requires
     returns-2
     (λ c. omega arith)  -- add-read-hex
     (λ c. omega arith)  -- sub-read-hex
@@ -84,4 +99,8 @@ read-activities-spec =
     (λ c. omega arith)  -- add-at
     (λ c. omega arith)  -- loop-less
     loop-again
-    returns-4)
+    returns-4
+    (λ c. omega arith)  -- shared-slice-read-if4
+    (λ c κs. search needs)  -- ended-at-requires-2
+    returns-5
+    returns-6)
