@@ -1,11 +1,10 @@
 // Judging a place over the frames of a log that was checked: document 01, "Tokens in one trace", second paragraph.
 ghost use mathlib.Core.Path.{_≡_};
-ghost use mathlib.Core.Bool.{cond};
 ghost use Prim.Native.Nat.{_+_, _^_, _≤_, _<_};
-ghost use lib.ListN.{length};
+ghost use lib.ListN.{length, getD};
 ghost use Rattle.event_log.specs.FrameIndex.{Indexed, framesBetween};
-ghost use Rattle.replay_spec.specs.Judgement.{caseCounts, casesOf, exceeds, verdictOf};
-ghost use Rattle.replay.specs.Replaying.{withCases};
+ghost use Rattle.replay_spec.specs.Judgement.{caseCounts, casesOf, exceeds, verdictWhere, verdictOf, mark};
+ghost use Rattle.replay.specs.Replaying.{kindOf, withCases};
 use event_log::index::frame_cases;
 use event_log::index::frame_digits;
 use places::Place;
@@ -15,26 +14,23 @@ use token_replay::Tokens;
 use token_replay::digit_sets;
 use token_replay::replay_trace;
 
-// Some cases where a test holds, and none where it does not, without a branch: how traces go cannot be foretold.
-fn cases_where(holds: bool, cases: u64) -> u64
-    ensures { λ r. ⌜ (r ≡ cond holds cases 0) × (r ≤ cases) ⌝ }
+// The number of the verdict that two tests give, without a branch: how traces go cannot be foretold.
+fn verdict_number(underfed: bool, overfed: bool) -> usize
+    ensures { λ r. ⌜ (r ≡ mark (verdictWhere underfed overfed)) × (r < 4) ⌝ }
 {
-    holds as u64 * cases
+    underfed as usize + 2 * overfed as usize
 }
 
-// The case counts with those of one more trace, by the signs of its least and its last balance.
-fn add_cases(counts: CaseCounts, tokens: Tokens, cases: u64) -> CaseCounts
-    requires { ⌜ casesOf counts + cases < 2 ^ 64 ⌝ }
-    ensures { λ r. ⌜ r ≡ withCases counts tokens cases ⌝ }
+// Adds the cases of one more trace to one of the four counts, by the signs of its least and its last
+// balance.
+fn add_cases(counts: &mut [u64; 4], tokens: Tokens, cases: u64)
+    requires { ⌜ getD (now counts) (kindOf tokens) 0 + cases < 2 ^ 64 ⌝ }
+    ensures { λ _. ⌜ now (counts .exit) ≡ withCases (now (counts .entry)) tokens cases ⌝ }
 {
     let underfed = tokens.least < 0;
     let overfed = tokens.balance > 0;
-    CaseCounts {
-        fitting: counts.fitting + cases_where(!underfed & !overfed, cases),
-        underfed: counts.underfed + cases_where(underfed & !overfed, cases),
-        overfed: counts.overfed + cases_where(!underfed & overfed, cases),
-        both: counts.both + cases_where(underfed & overfed, cases),
-    }
+    let kind = verdict_number(underfed, overfed);
+    counts[kind] += cases;
 }
 
 // The four case counts of a place over the frames of a log that was accepted, from one line on up to another.
@@ -43,19 +39,20 @@ pub fn count_cases(text: &[u8], index: &[u64], from: usize, to: usize, place: Pl
     ensures { λ r. ⌜ r ≡ caseCounts place (framesBetween from to (now (text .entry))) ⌝ }
 {
     let sets = digit_sets(place);
-    let mut counts = CaseCounts {
-        fitting: 0,
-        underfed: 0,
-        overfed: 0,
-        both: 0,
-    };
+    let mut counts = [0u64; 4];
     let mut frame = from;
     while frame < to {
         let tokens = replay_trace(frame_digits(text, index, frame), sets);
-        counts = add_cases(counts, tokens, frame_cases(index, frame));
+        let cases = frame_cases(index, frame);
+        add_cases(&mut counts, tokens, cases);
         frame += 1;
     }
-    counts
+    CaseCounts {
+        fitting: counts[0],
+        underfed: counts[1],
+        overfed: counts[2],
+        both: counts[3],
+    }
 }
 
 // Whether the share of some cases in all of them is above a threshold in thousandths.

@@ -1,13 +1,14 @@
--- `replay::judgement::add_cases` meets its contract: the signs of the two balances, read back from their bits, are those of the definition.
+-- `replay::judgement::add_cases` meets its contract: the signs of the two balances, read back from
+-- their bits, are those of the definition, so the count at the number of the trace's verdict grows.
 -- Assumes nothing.
 use mathlib.Core.Path.{_≡_}
+use borrow.Author.Needs.{needs}
 use lib.IntN.{ℤ, pos}
 use lib.Signed.{ltZ}
 use mir.Syntax.{w16}
 use mir.Val.{SFits, ofZ, toZ}
 use mir.ValLaws.{toZ-ofZ}
-use borrow.Author.Needs.{needs}
-use Rattle.replay.specs.Replaying.{withCases}
+use Rattle.replay.specs.Replaying.{kindOf, withCases}
 use Rattle.replay.proofs.judgement.add_cases.Statement.{statement}
 use Rattle.replay.proofs.judgement.add_cases.Tie as tie
 
@@ -17,33 +18,27 @@ below-zero z f = rw (toZ-ofZ w16 z f)
 above-zero : (z : ℤ) → SFits w16 z → ltZ (pos 0) (toZ w16 (ofZ w16 z)) ≡ ltZ (pos 0) z
 above-zero z f = rw (toZ-ofZ w16 z f)
 
+-- the number is that of the definition
+kind : (c : tie.After-verdict-number) → c .verdict-number .result ≡ kindOf (c .before .before .before .before .before .args .tokens)
+unfolding kindOf
+kind c =
+    let t = c .before .before .before .before .before .args .tokens in
+    rw (← below-zero (t .least) (search needs), ← above-zero (t .balance) (search needs)) (c .verdict-number .ensures .0)
+
+add-counts : tie.Need-add-counts
+add-counts c = record { fits = rw (kind (c .before)) (c .before .before .before .before .before .before .pre) }
+
 returns : tie.Need-returns
 unfolding withCases
-returns c =
-    let fourth = c .before in
-    let third = fourth .before .before in
-    let second = third .before .before in
-    let first = second .before .before in
-    let t = first .before .before .before .before .before .args .tokens in
-    rw (
-      first .cases-where .ensures .0,
-      second .cases-where2 .ensures .0,
-      third .cases-where3 .ensures .0,
-      fourth .cases-where4 .ensures .0,
-      ← below-zero (t .least) (search needs),
-      ← above-zero (t .balance) (search needs),
-    )
+returns c = rw (kind (c .before))
 
 pub add-cases-spec : {M : Type 1} → statement M
 add-cases-spec =
     tie.close
     (tie.spec
-    (λ c κs. search needs)  -- cases-where-requires
-    (λ c. search needs)  -- add-t11
-    (λ c κs. search needs)  -- cases-where-requires-2
-    (λ c. search needs)  -- add-t15
-    (λ c κs. search needs)  -- cases-where-requires-3
-    (λ c. search needs)  -- add-t19
-    (λ c κs. search needs)  -- cases-where-requires-4
-    (λ c. search needs)  -- add-t22
+    (λ c κs. search needs)  -- verdict-number-requires
+    (λ c. search needs)  -- mul-counts
+    (λ c. search needs)  -- element-copy-out-counts
+    add-counts
+    (λ c. search needs)  -- element-write-counts
     returns)

@@ -13,7 +13,8 @@ use Rattle.event_log.proofs.laws.IndexedFrames.{WordOf, frame-found}
 use Rattle.event_log.proofs.laws.FrameRanges.{index-length, frames-none, frames-more}
 use Rattle.replay_spec.specs.Judgement.{caseCounts}
 use Rattle.token_replay.specs.Tokens.{digitSets}
-use Rattle.replay.proofs.laws.FrameByFrame.{counts-none, counts-more}
+use Rattle.replay.specs.Replaying.{countRow}
+use Rattle.replay.proofs.laws.FrameByFrame.{count-part, counts-none, counts-more}
 use Rattle.replay.proofs.laws.FrameReplay.{frame-digits, cases-fit}
 use Rattle.replay.proofs.judgement.count_cases.Statement.{statement}
 use Rattle.replay.proofs.judgement.count_cases.Tie as tie
@@ -22,7 +23,7 @@ abbrev Inv-loop : tie.InvT-loop
 Inv-loop text index from to sets counts₀ frame₀ counts frame =
     (from ≤ frame)
     × (frame - from ≤ to - from)
-    × ((place : Place) → sets ≡ digitSets place → counts ≡ caseCounts place (framesBetween from frame text))
+    × ((place : Place) → sets ≡ digitSets place → counts ≡ countRow (caseCounts place (framesBetween from frame text)))
 
 abbrev μ-loop : tie.MeasureT-loop
 μ-loop text index from to sets counts₀ frame₀ counts frame = to - frame
@@ -32,7 +33,7 @@ loop-holds c =
     let a = c .before .before .before .args in (
       omega arith,
       omega arith,
-      λ place e. sym (ap (caseCounts place) (frames-none (a .text .now) (a .from)) ∙ counts-none place),
+      λ place e. rw (frames-none (a .text .now) (a .from)) (sym (counts-none place)),
     )
 
 -- the frame whose turn it is
@@ -50,16 +51,22 @@ replay-trace-requires c κs =
 
 add-cases-requires : tie.Need-add-cases-requires Inv-loop μ-loop
 add-cases-requires c κs =
-    let i = c .before .before .before in
+    let f = c .before in
+    let i = f .before .before .before in
     let l = i .before in
     let s = l .before .before .before .before in
-    let counts = l .loop .inv .2 (s .args .place) (l .before .digit-sets .ensures) in
-    rw (c .frame-cases .ensures, found i .cases, counts)
-    (cases-fit (s .args .place) (s .pre .0 .log) (s .args .from) (l .loop .frame) _ (found i .under))
+    let so-far = caseCounts (s .args .place) (framesBetween (s .args .from) (l .loop .frame) (s .args .text .now)) in
+    rw (f .frame-cases .ensures, found i .cases, l .loop .inv .2 (s .args .place) (l .before .digit-sets .ensures))
+    (omega (
+      arith,
+      count-part so-far (f .before .replay-trace .result),
+      cases-fit (s .args .place) (s .pre .0 .log) (s .args .from) (l .loop .frame) _ (found i .under),
+    ))
 
 loop-again : tie.Need-loop-again Inv-loop μ-loop
 loop-again c =
-    let t = c .before .before in
+    let f = c .before .before in
+    let t = f .before in
     let d = t .before in
     let i = d .before in
     let l = i .before in
@@ -74,7 +81,7 @@ loop-again c =
             t .replay-trace .ensures place e,
             d .frame-digits .ensures,
             frame-digits _ (found i .under) .trace,
-            c .before .frame-cases .ensures,
+            f .frame-cases .ensures,
             found i .cases,
             l .loop .inv .2 place e,
             frames-more text (s .args .from) (l .loop .frame) (l .loop .inv .0) less,
@@ -87,8 +94,8 @@ returns c =
     let l = c .before in
     let a = l .before .before .before .before .args in
     let size : l .loop .frame - a .from ≡ a .to - a .from = omega (arith, l .loop .inv .1, c .loop-test .left) in
-    l .loop .inv .2 (a .place) (l .before .digit-sets .ensures)
-    ∙ ap (λ (n : ℕ). caseCounts (a .place) (take n (drop (a .from) (framesOf (a .text .now))))) size
+    rw (l .loop .inv .2 (a .place) (l .before .digit-sets .ensures))
+    (ap (λ (n : ℕ). caseCounts (a .place) (take n (drop (a .from) (framesOf (a .text .now))))) size)
 
 pub count-cases-spec : {M : Type 1} → statement M
 count-cases-spec =
@@ -105,4 +112,8 @@ count-cases-spec =
     (λ c. omega arith)  -- add-frame
     (λ c. omega arith)  -- loop-less
     loop-again
+    (λ c. search needs)  -- array-read-t17
+    (λ c. search needs)  -- array-read-t20
+    (λ c. search needs)  -- array-read-t23
+    (λ c. search needs)  -- array-read-t26
     returns)
