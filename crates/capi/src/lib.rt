@@ -194,7 +194,7 @@ pub extern "C" fn placelist_search(
         Discovered::Refused(refusal) => refuse(refusal, value),
         Discovered::Ran(done) => {
             *run = [
-                done.end as u64,
+                done.end,
                 done.found as u64,
                 done.rejected as u64,
                 done.replays as u64,

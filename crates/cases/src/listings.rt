@@ -63,7 +63,7 @@ fn settings_in(line: &[u8]) -> Settings
 
 fn run_line(run: Run) {
     begin_line();
-    field(b"end", run.end as u64);
+    field(b"end", run.end);
     field(b"found", run.found as u64);
     field(b"rejected", run.rejected as u64);
     field(b"replays", run.replays as u64);

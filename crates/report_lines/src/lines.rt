@@ -56,7 +56,7 @@ fn write_run(run: Run, output: &mut [u8]) -> usize
     ensures count { λ r. ⌜ r ≡ length (runLine run) ⌝ }
     ensures text { λ _. ⌜ now (output .exit) ≡ overwrite (runLine run) (now (output .entry)) ⌝ }
 {
-    write_hex(run.end as u64, &mut output[0..REPLAYS_AT]);
+    write_hex(run.end, &mut output[0..REPLAYS_AT]);
     write_hex(run.replays as u64, &mut output[REPLAYS_AT..VISITS_AT]);
     write_hex(run.visits as u64, &mut output[VISITS_AT..RUN_DIGITS]);
     output[RUN_DIGITS] = LINE_FEED;

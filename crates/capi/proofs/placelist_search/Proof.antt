@@ -30,7 +30,7 @@ returns c =
 returns-2 : tie.Need-returns-2
 unfolding discoveredNumber discoveredValue runAfter
 returns-2 c =
-    let r = c .before .before .before .before .before .before .before in
+    let r = c .before .before .before .before .before .before in
     let d = r .before .before .before .before .before .before in
     let buffers = d .discover .ensures .1 in
     rw (sym (answered d) ∙ r .done .given .1) (c .accept .ensures .0, (c .accept .ensures .1, (refl, (buffers .0, buffers .1 .0))))
@@ -43,9 +43,8 @@ placelist-search-spec =
     (λ c. search needs)  -- enum-known-refusal
     (λ c κs. search needs)  -- refuse-requires
     (λ c. search needs)  -- enum-known-done
-    (λ c. search needs)  -- cast-t21
+    (λ c. search needs)  -- cast-t23
     (λ c. search needs)  -- cast-t24
-    (λ c. search needs)  -- cast-t25
     (λ c κs. search needs)  -- accept-requires
     (λ c. search needs)  -- same-length
     (λ c. search needs)  -- same-length-2
