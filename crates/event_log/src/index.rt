@@ -1,13 +1,14 @@
 // The index of a log's frames, made once for all replays: document 01, "Settings and the log". What
 // a word of it holds is known in this file alone.
 ghost use mathlib.Core.Path.{_≡_};
-ghost use Prim.Native.Nat.{_/_, _≤_, _<_};
-ghost use lib.ListN.{length, getD};
+ghost use Prim.Native.Nat.{ℕ, _/_, _≤_, _<_};
+ghost use mathlib.Core.List.{List};
+ghost use lib.ListN.{length};
 ghost use Rattle.foundation.specs.Buffers.{overwrite};
 ghost use Rattle.limits.specs.Settings.{mostActivities};
 ghost use Rattle.event_log_spec.specs.Frames.{WrittenLog, mostFrames};
 ghost use Rattle.event_log_spec.specs.Lines.{framesOf};
-ghost use Rattle.event_log.specs.FrameIndex.{startUnit, caseUnit, indexWord, wordCases, frameIndex, Indexed, frameAt, activityDigits};
+ghost use Rattle.event_log.specs.FrameIndex.{startUnit, caseUnit, indexWord, frameIndex, Indexed, frameAt, activityDigits};
 use crate::frame::cases_at;
 use crate::frame::trace_end;
 use log_lines::COUNT_DIGITS;
@@ -46,10 +47,10 @@ pub fn index_frames(text: &[u8], index: &mut [u64]) -> usize
     count
 }
 
-// The cases of a frame.
+// The cases of a frame, whatever log the index is of.
 pub fn frame_cases(index: &[u64], frame: usize) -> u64
     requires { ⌜ frame < length (now index) ⌝ }
-    ensures { λ r. ⌜ r ≡ wordCases (getD (now (index .entry)) frame 0) ⌝ }
+    ensures { λ r. ⌜ ((text : List ℕ) → Indexed text (now (index .entry)) → r ≡ frameAt text frame .cases) ⌝ }
 {
     index[frame] / CASE_UNIT
 }

@@ -1,5 +1,6 @@
--- `replay::judgement::count_cases` meets its contract. The loop's invariant: the counts are those of the frames before the one whose turn it is, for
--- every place whose sets these are. The measure is how many frames are left.
+-- `replay::judgement::count_cases` meets its contract. The loop's invariant: the counts are those
+-- of the frames before the one whose turn it is, for every place whose sets these are. The measure
+-- is how many frames are left.
 -- Assumes nothing.
 use Prim.Native.Nat.{ℕ, _-_, _≤_, _<_}
 use native.Mathlib.Omega.{arith}
@@ -56,7 +57,7 @@ add-cases-requires c κs =
     let l = i .before in
     let s = l .before .before .before .before in
     let so-far = caseCounts (s .args .place) (framesBetween (s .args .from) (l .loop .frame) (s .args .text .now)) in
-    rw (f .frame-cases .ensures, found i .cases, l .loop .inv .2 (s .args .place) (l .before .digit-sets .ensures))
+    rw (f .frame-cases .ensures (s .args .text .now) (s .pre .0), l .loop .inv .2 (s .args .place) (l .before .digit-sets .ensures))
     (omega (
       arith,
       count-part so-far (f .before .replay-trace .result),
@@ -81,8 +82,7 @@ loop-again c =
             t .replay-trace .ensures place e,
             d .frame-digits .ensures,
             frame-digits _ (found i .under) .trace,
-            f .frame-cases .ensures,
-            found i .cases,
+            f .frame-cases .ensures text (s .pre .0),
             l .loop .inv .2 place e,
             frames-more text (s .args .from) (l .loop .frame) (l .loop .inv .0) less,
           )
