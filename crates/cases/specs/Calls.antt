@@ -15,18 +15,27 @@ sameBytes (x ∷ xs) (y ∷ ys) = eqb x y && sameBytes xs ys
 sameBytes [] (y ∷ ys) = false
 sameBytes (x ∷ xs) [] = false
 
+-- the calls by their names
+abbrev pub namedCalls : List (List ℕ × Call)
+namedCalls =
+    (bytes "check", Check)
+    ∷ (bytes "replay", Replay)
+    ∷ (bytes "judge", Judge)
+    ∷ (bytes "search", Search)
+    ∷ (bytes "list", ListCall)
+    ∷ (bytes "twice", Twice)
+    ∷ (bytes "reduce", Reduce)
+    ∷ (bytes "write", Write)
+    ∷ (bytes "report", Report)
+    ∷ []
+
+-- the first call of that name
+unfoldable pub firstNamed : List ℕ → List (List ℕ × Call) → Call
+firstNamed name [] = Unknown
+firstNamed name (c ∷ calls) = cond (sameBytes name (c .0)) (c .1) (firstNamed name calls)
+
 unfoldable pub callNamed : List ℕ → Call
-callNamed name =
-    cond (sameBytes name (bytes "check")) Check
-    (cond (sameBytes name (bytes "replay")) Replay
-    (cond (sameBytes name (bytes "judge")) Judge
-    (cond (sameBytes name (bytes "search")) Search
-    (cond (sameBytes name (bytes "list")) ListCall
-    (cond (sameBytes name (bytes "twice")) Twice
-    (cond (sameBytes name (bytes "reduce")) Reduce
-    (cond (sameBytes name (bytes "write")) Write
-    (cond (sameBytes name (bytes "report")) Report
-    Unknown))))))))
+callNamed name = firstNamed name namedCalls
 
 -- how many words of a line stand before its text or list
 abbrev pub leadingWords : Call → ℕ

@@ -1,124 +1,109 @@
--- `cases::calls::call_of` meets its contract, one name after the other.
+-- `cases::calls::call_of` meets its contract: a name that is none of those before is looked for among
+-- those that are left.
 -- Assumes nothing.
+use Prim.Native.Nat.{ℕ}
+use mathlib.Core.Path.{_≡_, refl, _∙_}
 use borrow.Author.Needs.{needs}
+use lib.ListN.{drop}
 use Rattle.foundation.specs.Text.{bytes}
-use Rattle.cases.specs.Calls.{callNamed}
-use Rattle.cases.proofs.laws.Names.{decided}
+use Rattle.cases.specs.declared.calls.Call.the-variants.{Check, Replay, Judge, Search, List as ListCall, Twice, Reduce, Write, Report}
+use Rattle.cases.specs.Calls.{namedCalls, firstNamed, callNamed}
+use Rattle.cases.proofs.laws.Names.{hit, miss}
 use Rattle.cases.proofs.calls.call_of.Statement.{statement}
 use Rattle.cases.proofs.calls.call_of.Tie as tie
 
-returns : tie.Need-returns
+-- the call is that of the names from a number on
+abbrev Left : ℕ → tie.Start → Type 0
+Left from s = firstNamed (s .args .name .now) (drop from namedCalls) ≡ callNamed (s .args .name .now)
+
+none-past : (s : tie.Start) → Left 0 s
 unfolding callNamed
-returns c =
-    simp
-    (decided (bytes "check") (c .before .same .ensures) (c .if1 .taken))
+none-past s = refl
+
+abbrev start-1 : tie.Else1 → tie.Start
+start-1 c = c .before .before .before .before
+
+past-1 : (c : tie.Else1) → Left 1 (start-1 c)
+past-1 c = miss (bytes "check", Check) (drop 1 namedCalls) (c .before .same .ensures) (c .if1 .left) ∙ none-past (start-1 c)
+
+returns : tie.Need-returns
+returns c = hit (bytes "check", Check) (drop 1 namedCalls) (c .before .same .ensures) (c .if1 .taken) ∙ none-past (c .before .before .before .before)
+
+abbrev start-2 : tie.Else2 → tie.Start
+start-2 c = start-1 (c .before .before .before)
+
+past-2 : (c : tie.Else2) → Left 2 (start-2 c)
+past-2 c = miss (bytes "replay", Replay) (drop 2 namedCalls) (c .before .same2 .ensures) (c .if2 .left) ∙ past-1 (c .before .before .before)
 
 returns-2 : tie.Need-returns-2
-unfolding callNamed
-returns-2 c =
-    simp (
-      decided (bytes "check") (c .before .before .before .before .same .ensures) (c .before .before .before .if1 .left),
-      decided (bytes "replay") (c .before .same2 .ensures) (c .if2 .taken),
-    )
+returns-2 c = hit (bytes "replay", Replay) (drop 2 namedCalls) (c .before .same2 .ensures) (c .if2 .taken) ∙ past-1 (c .before .before .before)
+
+abbrev start-3 : tie.Else3 → tie.Start
+start-3 c = start-2 (c .before .before .before)
+
+past-3 : (c : tie.Else3) → Left 3 (start-3 c)
+past-3 c = miss (bytes "judge", Judge) (drop 3 namedCalls) (c .before .same3 .ensures) (c .if3 .left) ∙ past-2 (c .before .before .before)
 
 returns-3 : tie.Need-returns-3
-unfolding callNamed
-returns-3 c =
-    simp (
-      decided (bytes "check") (c .before .before .before .before .before .before .before .same .ensures) (c .before .before .before .before .before .before .if1 .left),
-      decided (bytes "replay") (c .before .before .before .before .same2 .ensures) (c .before .before .before .if2 .left),
-      decided (bytes "judge") (c .before .same3 .ensures) (c .if3 .taken),
-    )
+returns-3 c = hit (bytes "judge", Judge) (drop 3 namedCalls) (c .before .same3 .ensures) (c .if3 .taken) ∙ past-2 (c .before .before .before)
+
+abbrev start-4 : tie.Else4 → tie.Start
+start-4 c = start-3 (c .before .before .before)
+
+past-4 : (c : tie.Else4) → Left 4 (start-4 c)
+past-4 c = miss (bytes "search", Search) (drop 4 namedCalls) (c .before .same4 .ensures) (c .if4 .left) ∙ past-3 (c .before .before .before)
 
 returns-4 : tie.Need-returns-4
-unfolding callNamed
-returns-4 c =
-    simp (
-      decided (bytes "check") (c .before .before .before .before .before .before .before .before .before .before .same .ensures) (c .before .before .before .before .before .before .before .before .before .if1 .left),
-      decided (bytes "replay") (c .before .before .before .before .before .before .before .same2 .ensures) (c .before .before .before .before .before .before .if2 .left),
-      decided (bytes "judge") (c .before .before .before .before .same3 .ensures) (c .before .before .before .if3 .left),
-      decided (bytes "search") (c .before .same4 .ensures) (c .if4 .taken),
-    )
+returns-4 c = hit (bytes "search", Search) (drop 4 namedCalls) (c .before .same4 .ensures) (c .if4 .taken) ∙ past-3 (c .before .before .before)
+
+abbrev start-5 : tie.Else5 → tie.Start
+start-5 c = start-4 (c .before .before .before)
+
+past-5 : (c : tie.Else5) → Left 5 (start-5 c)
+past-5 c = miss (bytes "list", ListCall) (drop 5 namedCalls) (c .before .same5 .ensures) (c .if5 .left) ∙ past-4 (c .before .before .before)
 
 returns-5 : tie.Need-returns-5
-unfolding callNamed
-returns-5 c =
-    simp (
-      decided (bytes "check") (c .before .before .before .before .before .before .before .before .before .before .before .before .before .same .ensures) (c .before .before .before .before .before .before .before .before .before .before .before .before .if1 .left),
-      decided (bytes "replay") (c .before .before .before .before .before .before .before .before .before .before .same2 .ensures) (c .before .before .before .before .before .before .before .before .before .if2 .left),
-      decided (bytes "judge") (c .before .before .before .before .before .before .before .same3 .ensures) (c .before .before .before .before .before .before .if3 .left),
-      decided (bytes "search") (c .before .before .before .before .same4 .ensures) (c .before .before .before .if4 .left),
-      decided (bytes "list") (c .before .same5 .ensures) (c .if5 .taken),
-    )
+returns-5 c = hit (bytes "list", ListCall) (drop 5 namedCalls) (c .before .same5 .ensures) (c .if5 .taken) ∙ past-4 (c .before .before .before)
+
+abbrev start-6 : tie.Else6 → tie.Start
+start-6 c = start-5 (c .before .before .before)
+
+past-6 : (c : tie.Else6) → Left 6 (start-6 c)
+past-6 c = miss (bytes "twice", Twice) (drop 6 namedCalls) (c .before .same6 .ensures) (c .if6 .left) ∙ past-5 (c .before .before .before)
 
 returns-6 : tie.Need-returns-6
-unfolding callNamed
-returns-6 c =
-    simp (
-      decided (bytes "check") (c .before .before .before .before .before .before .before .before .before .before .before .before .before .before .before .before .same .ensures) (c .before .before .before .before .before .before .before .before .before .before .before .before .before .before .before .if1 .left),
-      decided (bytes "replay") (c .before .before .before .before .before .before .before .before .before .before .before .before .before .same2 .ensures) (c .before .before .before .before .before .before .before .before .before .before .before .before .if2 .left),
-      decided (bytes "judge") (c .before .before .before .before .before .before .before .before .before .before .same3 .ensures) (c .before .before .before .before .before .before .before .before .before .if3 .left),
-      decided (bytes "search") (c .before .before .before .before .before .before .before .same4 .ensures) (c .before .before .before .before .before .before .if4 .left),
-      decided (bytes "list") (c .before .before .before .before .same5 .ensures) (c .before .before .before .if5 .left),
-      decided (bytes "twice") (c .before .same6 .ensures) (c .if6 .taken),
-    )
+returns-6 c = hit (bytes "twice", Twice) (drop 6 namedCalls) (c .before .same6 .ensures) (c .if6 .taken) ∙ past-5 (c .before .before .before)
+
+abbrev start-7 : tie.Else7 → tie.Start
+start-7 c = start-6 (c .before .before .before)
+
+past-7 : (c : tie.Else7) → Left 7 (start-7 c)
+past-7 c = miss (bytes "reduce", Reduce) (drop 7 namedCalls) (c .before .same7 .ensures) (c .if7 .left) ∙ past-6 (c .before .before .before)
 
 returns-7 : tie.Need-returns-7
-unfolding callNamed
-returns-7 c =
-    simp (
-      decided (bytes "check") (c .before .before .before .before .before .before .before .before .before .before .before .before .before .before .before .before .before .before .before .same .ensures) (c .before .before .before .before .before .before .before .before .before .before .before .before .before .before .before .before .before .before .if1 .left),
-      decided (bytes "replay") (c .before .before .before .before .before .before .before .before .before .before .before .before .before .before .before .before .same2 .ensures) (c .before .before .before .before .before .before .before .before .before .before .before .before .before .before .before .if2 .left),
-      decided (bytes "judge") (c .before .before .before .before .before .before .before .before .before .before .before .before .before .same3 .ensures) (c .before .before .before .before .before .before .before .before .before .before .before .before .if3 .left),
-      decided (bytes "search") (c .before .before .before .before .before .before .before .before .before .before .same4 .ensures) (c .before .before .before .before .before .before .before .before .before .if4 .left),
-      decided (bytes "list") (c .before .before .before .before .before .before .before .same5 .ensures) (c .before .before .before .before .before .before .if5 .left),
-      decided (bytes "twice") (c .before .before .before .before .same6 .ensures) (c .before .before .before .if6 .left),
-      decided (bytes "reduce") (c .before .same7 .ensures) (c .if7 .taken),
-    )
+returns-7 c = hit (bytes "reduce", Reduce) (drop 7 namedCalls) (c .before .same7 .ensures) (c .if7 .taken) ∙ past-6 (c .before .before .before)
+
+abbrev start-8 : tie.Else8 → tie.Start
+start-8 c = start-7 (c .before .before .before)
+
+past-8 : (c : tie.Else8) → Left 8 (start-8 c)
+past-8 c = miss (bytes "write", Write) (drop 8 namedCalls) (c .before .same8 .ensures) (c .if8 .left) ∙ past-7 (c .before .before .before)
 
 returns-8 : tie.Need-returns-8
-unfolding callNamed
-returns-8 c =
-    simp (
-      decided (bytes "check") (c .before .before .before .before .before .before .before .before .before .before .before .before .before .before .before .before .before .before .before .before .before .before .same .ensures) (c .before .before .before .before .before .before .before .before .before .before .before .before .before .before .before .before .before .before .before .before .before .if1 .left),
-      decided (bytes "replay") (c .before .before .before .before .before .before .before .before .before .before .before .before .before .before .before .before .before .before .before .same2 .ensures) (c .before .before .before .before .before .before .before .before .before .before .before .before .before .before .before .before .before .before .if2 .left),
-      decided (bytes "judge") (c .before .before .before .before .before .before .before .before .before .before .before .before .before .before .before .before .same3 .ensures) (c .before .before .before .before .before .before .before .before .before .before .before .before .before .before .before .if3 .left),
-      decided (bytes "search") (c .before .before .before .before .before .before .before .before .before .before .before .before .before .same4 .ensures) (c .before .before .before .before .before .before .before .before .before .before .before .before .if4 .left),
-      decided (bytes "list") (c .before .before .before .before .before .before .before .before .before .before .same5 .ensures) (c .before .before .before .before .before .before .before .before .before .if5 .left),
-      decided (bytes "twice") (c .before .before .before .before .before .before .before .same6 .ensures) (c .before .before .before .before .before .before .if6 .left),
-      decided (bytes "reduce") (c .before .before .before .before .same7 .ensures) (c .before .before .before .if7 .left),
-      decided (bytes "write") (c .before .same8 .ensures) (c .if8 .taken),
-    )
+returns-8 c = hit (bytes "write", Write) (drop 8 namedCalls) (c .before .same8 .ensures) (c .if8 .taken) ∙ past-7 (c .before .before .before)
+
+abbrev start-9 : tie.Else9 → tie.Start
+start-9 c = start-8 (c .before .before .before)
+
+past-9 : (c : tie.Else9) → Left 9 (start-9 c)
+past-9 c = miss (bytes "report", Report) (drop 9 namedCalls) (c .before .same9 .ensures) (c .if9 .left) ∙ past-8 (c .before .before .before)
 
 returns-9 : tie.Need-returns-9
-unfolding callNamed
-returns-9 c =
-    simp (
-      decided (bytes "check") (c .before .before .before .before .before .before .before .before .before .before .before .before .before .before .before .before .before .before .before .before .before .before .before .before .before .same .ensures) (c .before .before .before .before .before .before .before .before .before .before .before .before .before .before .before .before .before .before .before .before .before .before .before .before .if1 .left),
-      decided (bytes "replay") (c .before .before .before .before .before .before .before .before .before .before .before .before .before .before .before .before .before .before .before .before .before .before .same2 .ensures) (c .before .before .before .before .before .before .before .before .before .before .before .before .before .before .before .before .before .before .before .before .before .if2 .left),
-      decided (bytes "judge") (c .before .before .before .before .before .before .before .before .before .before .before .before .before .before .before .before .before .before .before .same3 .ensures) (c .before .before .before .before .before .before .before .before .before .before .before .before .before .before .before .before .before .before .if3 .left),
-      decided (bytes "search") (c .before .before .before .before .before .before .before .before .before .before .before .before .before .before .before .before .same4 .ensures) (c .before .before .before .before .before .before .before .before .before .before .before .before .before .before .before .if4 .left),
-      decided (bytes "list") (c .before .before .before .before .before .before .before .before .before .before .before .before .before .same5 .ensures) (c .before .before .before .before .before .before .before .before .before .before .before .before .if5 .left),
-      decided (bytes "twice") (c .before .before .before .before .before .before .before .before .before .before .same6 .ensures) (c .before .before .before .before .before .before .before .before .before .if6 .left),
-      decided (bytes "reduce") (c .before .before .before .before .before .before .before .same7 .ensures) (c .before .before .before .before .before .before .if7 .left),
-      decided (bytes "write") (c .before .before .before .before .same8 .ensures) (c .before .before .before .if8 .left),
-      decided (bytes "report") (c .before .same9 .ensures) (c .if9 .taken),
-    )
+returns-9 c = hit (bytes "report", Report) (drop 9 namedCalls) (c .before .same9 .ensures) (c .if9 .taken) ∙ past-8 (c .before .before .before)
 
 returns-10 : tie.Need-returns-10
-unfolding callNamed
-returns-10 c =
-    simp (
-      decided (bytes "check") (c .before .before .before .before .before .before .before .before .before .before .before .before .before .before .before .before .before .before .before .before .before .before .before .before .before .same .ensures) (c .before .before .before .before .before .before .before .before .before .before .before .before .before .before .before .before .before .before .before .before .before .before .before .before .if1 .left),
-      decided (bytes "replay") (c .before .before .before .before .before .before .before .before .before .before .before .before .before .before .before .before .before .before .before .before .before .before .same2 .ensures) (c .before .before .before .before .before .before .before .before .before .before .before .before .before .before .before .before .before .before .before .before .before .if2 .left),
-      decided (bytes "judge") (c .before .before .before .before .before .before .before .before .before .before .before .before .before .before .before .before .before .before .before .same3 .ensures) (c .before .before .before .before .before .before .before .before .before .before .before .before .before .before .before .before .before .before .if3 .left),
-      decided (bytes "search") (c .before .before .before .before .before .before .before .before .before .before .before .before .before .before .before .before .same4 .ensures) (c .before .before .before .before .before .before .before .before .before .before .before .before .before .before .before .if4 .left),
-      decided (bytes "list") (c .before .before .before .before .before .before .before .before .before .before .before .before .before .same5 .ensures) (c .before .before .before .before .before .before .before .before .before .before .before .before .if5 .left),
-      decided (bytes "twice") (c .before .before .before .before .before .before .before .before .before .before .same6 .ensures) (c .before .before .before .before .before .before .before .before .before .if6 .left),
-      decided (bytes "reduce") (c .before .before .before .before .before .before .before .same7 .ensures) (c .before .before .before .before .before .before .if7 .left),
-      decided (bytes "write") (c .before .before .before .before .same8 .ensures) (c .before .before .before .if8 .left),
-      decided (bytes "report") (c .before .same9 .ensures) (c .if9 .left),
-    )
+unfolding firstNamed
+returns-10 c = past-9 c
 
 pub call-of-spec : {M : Type 1} → statement M
 call-of-spec =
