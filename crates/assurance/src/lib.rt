@@ -1,4 +1,5 @@
-// Demand 3 of the written demands, on the calls themselves: any two runs on one log under the same settings, and both reductions.
+// Demand 3 of the written demands, on the calls themselves: any two runs on one log under the same
+// settings, and both reductions.
 ghost use Rattle.listing.specs.Listing.{resourcesOf, GoesAsWritten};
 ghost use Rattle.assurance_spec.specs.Demand3.{observed, Demand3};
 use limits::Settings;
@@ -11,8 +12,9 @@ pub struct BothListings {
     pub second: Listing,
 }
 
-// Makes two runs on a log, each with a cache, a list and a budget of its own, and after a completed one reduces its list into a further buffer. The
-// first two clauses say all that is answered and left; the third is demand 3.
+// Makes two runs on a log, each with a cache, a list and a budget of its own, and after a completed
+// one reduces its list into a further buffer. The first two clauses say all that is answered and
+// left; the third is demand 3.
 pub fn list_twice(
     settings: Settings,
     text: &[u8],

@@ -1,4 +1,5 @@
-// Sets and places compared, and sets stepped through in the stated order: document 01, "Candidates and their order".
+// Sets and places compared, and sets stepped through in the stated order: document 01, "Candidates
+// and their order".
 ghost use mathlib.Core.Path.{_≡_};
 ghost use Rattle.places.specs.Places.{lighter};
 use crate::set::is_within;

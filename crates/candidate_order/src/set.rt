@@ -1,5 +1,5 @@
-// Sets of activities as 16-bit numbers, by operations on their bits: document 01, "Candidates and their order" and the last paragraph of
-// "The walk".
+// Sets of activities as 16-bit numbers, by operations on their bits: document 01, "Candidates and
+// their order" and the last paragraph of "The walk".
 ghost use mathlib.Core.Path.{_≡_};
 ghost use mathlib.Core.Bool.{true};
 ghost use Prim.Native.Nat.{ℕ, suc, _^_, _≤_, _<_};
@@ -30,7 +30,8 @@ fn highest_of(set: u16) -> u32
     15 - u16::leading_zeros(set)
 }
 
-// The set after a given one in the stated order, 0 after the last: with the code above its highest added, where there is room for it.
+// The set after a given one in the stated order, 0 after the last: with the code above its highest
+// added, where there is room for it.
 pub fn set_after(activities: u8, most: u8, set: u16) -> u16
     requires { ⌜ (activities ≤ mostActivities) × (candidateSet activities most set ≡ true) ⌝ }
     ensures { λ r. ⌜ r ≡ setAfter set (sets activities most) ⌝ }
@@ -44,8 +45,8 @@ pub fn set_after(activities: u8, most: u8, set: u16) -> u16
     set_past(activities, set)
 }
 
-// The first set after a given one that does not extend it, 0 where there is none: with its highest code moved up by one, or without that code
-// and the next one moved up.
+// The first set after a given one that does not extend it, 0 where there is none: with its highest
+// code moved up by one, or without that code and the next one moved up.
 pub fn set_past(activities: u8, set: u16) -> u16
     requires { ⌜ (activities ≤ mostActivities) × (0 < set) × (set < 2 ^ activities) ⌝ }
     ensures { λ r. ⌜ ((most : ℕ) → candidateSet activities most set ≡ true → r ≡ setPast set (sets activities most)) ⌝ }

@@ -1,4 +1,5 @@
--- What each call answers and leaves, tried on one that is not refused and one that is. The places for results hold 7, 8 and 9 before.
+-- What each call answers and leaves, tried on one that is not refused and one that is. The places
+-- for results hold 7, 8 and 9 before.
 -- Assumes nothing.
 use Prim.Native.Nat.{ℕ}
 use mathlib.Core.Path.{_≡_, refl}

@@ -1,4 +1,5 @@
--- What the places for a call's results hold on return: its results in the order of the interface, and after a refusal what they held before.
+-- What the places for a call's results hold on return: its results in the order of the interface,
+-- and after a refusal what they held before.
 -- Assumes nothing.
 use Prim.Native.Nat.{ℕ}
 use mathlib.Core.List.{List, [], _∷_}

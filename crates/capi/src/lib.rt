@@ -1,5 +1,6 @@
-// The calls for programs in other languages, over numbers and slices. Each answers the number of its refusal, or 0, and writes what document 01
-// returns beside the number to `value`, or 0. Its results are written only where it is not refused. In C a slice is a pointer and a length, and
+// The calls for programs in other languages, over numbers and slices. Each answers the number of
+// its refusal, or 0, and writes what document 01 returns beside the number to `value`, or 0. Its
+// results are written only where it is not refused. In C a slice is a pointer and a length, and
 // what lies behind a `&mut` may overlap with nothing else that the call is given.
 ghost use mathlib.Core.Path.{_≡_};
 ghost use lib.ListN.{length};
@@ -154,7 +155,8 @@ pub extern "C" fn placelist_judge(
     }
 }
 
-// Searches the candidates for the places that a log fits: how the run ended and what it counted, with the words rejected and found.
+// Searches the candidates for the places that a log fits: how the run ended and what it counted,
+// with the words rejected and found.
 #[no_mangle]
 pub extern "C" fn placelist_search(
     activities: u8,
@@ -243,8 +245,8 @@ pub extern "C" fn placelist_write(
     answer_bytes(write_places(words, text), value, count)
 }
 
-// All of the program placelist but its reads and writes: how many bytes it writes for an input, with the bytes. A refusal that it writes as a line
-// is no refusal of the call.
+// All of the program placelist but its reads and writes: how many bytes it writes for an input,
+// with the bytes. A refusal that it writes as a line is no refusal of the call.
 #[no_mangle]
 pub extern "C" fn placelist_report(
     input: &[u8],

@@ -1,4 +1,5 @@
--- The definitions that the code of the search cites, tried on small inputs: the state that buffers hold.
+-- The definitions that the code of the search cites, tried on small inputs: the state that buffers
+-- hold.
 -- Assumes nothing.
 use mathlib.Core.Path.{_≡_, refl}
 use mathlib.Core.Bool.{true, false}

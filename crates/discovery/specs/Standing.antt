@@ -1,5 +1,6 @@
--- How a run stands in memory: its counts are those of its answer so far, and its words are at the front of the two buffers. What a function that
--- carries a run on answers, and what it leaves in the buffers. Document 01, "The walk".
+-- How a run stands in memory: its counts are those of its answer so far, and its words are at the
+-- front of the two buffers. What a function that carries a run on answers, and what it leaves in
+-- the buffers. Document 01, "The walk".
 -- Assumes nothing.
 use Prim.Native.Nat.{ℕ, _≤_}
 use mathlib.Core.Path.{_≡_}
@@ -19,7 +20,8 @@ use Rattle.discovery_spec.specs.declared.Run.{Run}
 use Rattle.discovery_spec.specs.Search.{State, Progress, going, step, stateOf}
 use Rattle.discovery_spec.specs.Discovery.{summary, capacityOf}
 
--- settings and a log that the checks of the call have passed, as far as the search needs it, and the index of the log's frames
+-- settings and a log that the checks of the call have passed, as far as the search needs it, and
+-- the index of the log's frames
 pub record Searchable (s : Settings) (text index : List ℕ) : Type 0 where
   pub some-activities : 1 ≤ s .activities
   pub few-activities : s .activities ≤ mostActivities
@@ -27,7 +29,8 @@ pub record Searchable (s : Settings) (text index : List ℕ) : Type 0 where
   pub small-threshold : s .threshold ≤ 1000
   pub indexed : Indexed text index
 
--- the state that a run's counts and its two buffers stand for; the candidate whose turn it is follows none that is pruned
+-- the state that a run's counts and its two buffers stand for; the candidate whose turn it is
+-- follows none that is pruned
 unfoldable pub stateIn : Run → List ℕ → List ℕ → State
 stateIn r rejected found =
     record {
@@ -52,7 +55,8 @@ pub record Stands (r : Run) (rejected found : List ℕ) : Type 0 where
   pub rejected-there : r .rejected ≤ length rejected
   pub found-there : r .found ≤ length found
 
--- after the progress p, the answer is r and the buffers, which held `rejected` and `found`, hold p's words and then their old tails
+-- after the progress p, the answer is r and the buffers, which held `rejected` and `found`, hold
+-- p's words and then their old tails
 pub record Leaves (p : Progress) (rejected found : List ℕ) (r : Run) (rejected-after found-after : List ℕ) : Type 0 where
   pub answered : r ≡ summary p
   pub rejected-left : rejected-after ≡ overwrite (stateOf p .rejected) rejected

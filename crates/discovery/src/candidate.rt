@@ -22,8 +22,8 @@ use replay_spec::mark_of;
 use rulings::Ruling;
 use rulings::ruling_by;
 
-// What follows the replay of a candidate that no word ruled: it is found, or its word goes where there is room among the rejected. Only a word
-// that was kept can prune, and then by its own mark.
+// What follows the replay of a candidate that no word ruled: it is found, or its word goes where
+// there is room among the rejected. Only a word that was kept can prune, and then by its own mark.
 fn conclude_turn(
     rejected: &mut [u64],
     found: &mut [u32],
@@ -64,8 +64,8 @@ fn conclude_turn(
     Turn { run, prune }
 }
 
-// One candidate that is not pruned: where a word rules it, it is visited and skipped; with the budget spent the run stops; else it is visited and
-// replayed.
+// One candidate that is not pruned: where a word rules it, it is visited and skipped; with the
+// budget spent the run stops; else it is visited and replayed.
 pub fn visit_candidate(
     threshold: u16,
     text: &[u8],

@@ -32,9 +32,9 @@ pub struct Position {
     pub candidate: Place,
 }
 
-// Searches the candidates in their order for those that the log fits, with the room of two buffers and a budget of replays. The words of found
-// places are written from the front of the one buffer, and those of rejected places from the front of the other. What the buffers hold is not
-// read.
+// Searches the candidates in their order for those that the log fits, with the room of two buffers
+// and a budget of replays. The words of found places are written from the front of the one buffer,
+// and those of rejected places from the front of the other. What the buffers hold is not read.
 pub fn discover(
     settings: Settings,
     text: &[u8],

@@ -1,4 +1,5 @@
-// The candidates one after the other: document 01, "The walk". A loop over output sets around one over input sets.
+// The candidates one after the other: document 01, "The walk". A loop over output sets around one
+// over input sets.
 ghost use mathlib.Core.Path.{_≡_};
 ghost use mathlib.Core.Bool.{true, cond};
 ghost use Prim.Native.Nat.{_+_, _≤_, _<_, _^_};
@@ -16,7 +17,8 @@ use discovery_spec::Run;
 use limits::Settings;
 use places::Place;
 
-// The input set whose turn comes after a given one: the next one, or where its descendants are pruned the next one past them.
+// The input set whose turn comes after a given one: the next one, or where its descendants are
+// pruned the next one past them.
 fn next_inputs(settings: Settings, inputs: u16, prune: bool) -> u16
     requires { ⌜ (settings .activities ≤ mostActivities) × (candidateSet (settings .activities) (settings .inputs) inputs ≡ true) ⌝ }
     ensures { λ r. ⌜ r ≡ (let list = sets (settings .activities) (settings .inputs) in cond prune (setPast inputs list) (setAfter inputs list)) ⌝ }

@@ -1,5 +1,6 @@
--- What is promised of any two runs on one log under the same settings, of which the second has at least the room and the budget of the first: the
--- part of demand 3 that is about runs. Document 01, "Thinning and writing", the words of demand 3.
+-- What is promised of any two runs on one log under the same settings, of which the second has at
+-- least the room and the budget of the first: the part of demand 3 that is about runs. Document 01,
+-- "Thinning and writing", the words of demand 3.
 -- Assumes nothing.
 use Prim.Native.Nat.{ℕ, _≤_}
 use mathlib.Core.Path.{_≡_}
@@ -48,8 +49,8 @@ module _ (s : Settings) (text : List ℕ) where
   unfoldable pub FoundAll : Capacity → Type 0
   FoundAll room = foundBy room ≡ map word fittingCandidates
 
-  -- the fitting candidates are every candidate that is neither underfed nor overfed and nothing else, each once, in the stated order; and
-  -- their words tell them apart
+  -- the fitting candidates are every candidate that is neither underfed nor overfed and nothing
+  -- else, each once, in the stated order; and their words tell them apart
   pub record AllFitting : Type 0 where
     pub exactly : (p : Place) → List·Memᴰ p fittingCandidates ↔ ((candidate s p ≡ true) × (fits p ≡ true))
     pub once : Ordered (λ (p q : Place). p ≡ q → ⊥) fittingCandidates
@@ -75,10 +76,12 @@ module _ (s : Settings) (text : List ℕ) (first second : Capacity) where
   pub record TwoRuns : Type 0 where
     -- what the first found is the beginning of what the second found
     pub beginning : (rest : List ℕ) × (foundBy s text second ≡ foundBy s text first ++ rest)
-    -- whatever its cache, a run completes that has room for every fitting candidate and a budget of at least the number of candidates
+    -- whatever its cache, a run completes that has room for every fitting candidate and a budget of
+    -- at least the number of candidates
     pub ample :
         (room : Capacity) → length (fittingCandidates s text) ≤ room .found → length (candidates s) ≤ room .budget
         → Completes s text room
-    -- if the first completes, so does the second, with no more replays and visits, and each found all fitting candidates
+    -- if the first completes, so does the second, with no more replays and visits, and each found
+    -- all fitting candidates
     pub complete : Completes s text first → BothComplete
     pub all-fitting : AllFitting s text

@@ -1,4 +1,5 @@
--- What is left of checking a log once the checks before those of the text have passed, and what one pass over the lines of a text answers.
+-- What is left of checking a log once the checks before those of the text have passed, and what one
+-- pass over the lines of a text answers.
 -- Assumes nothing.
 use Prim.Native.Nat.{ℕ}
 use mathlib.Core.List.{List}

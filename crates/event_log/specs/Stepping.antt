@@ -1,5 +1,6 @@
--- Stepping through a log that was checked, frame by frame: the case count at an index, and where the activity digits from an index end. Document 01,
--- "Settings and the log". Both take any text; of a log's frames they give the frames' own counts and ends.
+-- Stepping through a log that was checked, frame by frame: the case count at an index, and where
+-- the activity digits from an index end. Document 01, "Settings and the log". Both take any text;
+-- of a log's frames they give the frames' own counts and ends.
 -- Assumes nothing.
 use Prim.Native.Nat.{ℕ, _+_}
 use mathlib.Core.Bool.{cond}
@@ -20,7 +21,8 @@ casesIn Malformed = 0
 unfoldable pub casesAt : List ℕ → ℕ → ℕ
 casesAt text from = casesIn (countIn (drop from text))
 
--- the bytes that stand in pairs before the first pair that begins with a line feed; a last byte alone counts as a pair
+-- the bytes that stand in pairs before the first pair that begins with a line feed; a last byte
+-- alone counts as a pair
 unfoldable pub pairsLength : List ℕ → ℕ
 pairsLength [] = 0
 pairsLength (d ∷ []) = cond (eqb d lineFeed) 0 2

@@ -16,7 +16,8 @@ pub fn cases_at(text: &[u8], from: usize) -> u64
     }
 }
 
-// Where the activity digits that begin at an index end. Of each two digits only the first is read, the one that replaying leaves out.
+// Where the activity digits that begin at an index end. Of each two digits only the first is read,
+// the one that replaying leaves out.
 pub fn trace_end(text: &[u8], from: usize) -> usize
     ensures { λ r. ⌜ r ≡ traceEnd (now (text .entry)) from ⌝ }
 {

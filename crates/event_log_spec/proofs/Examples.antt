@@ -1,4 +1,5 @@
--- The definitions of frames and checking, tried on small texts, on the source's first log and at each fault of a line.
+-- The definitions of frames and checking, tried on small texts, on the source's first log and at
+-- each fault of a line.
 -- Assumes nothing.
 use Prim.Native.Nat.{ℕ}
 use mathlib.Core.Path.{_≡_, refl}

@@ -1,4 +1,5 @@
-// What a log is, and the type of what checking it answers: document 01, "Settings and the log". It has no code.
+// What a log is, and the type of what checking it answers: document 01, "Settings and the log". It
+// has no code.
 use limits::Refusal;
 
 // What checking a log answers: its number of frames and N, or the refusal.

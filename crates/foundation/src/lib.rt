@@ -1,1 +1,2 @@
-// The lowest layer: words for lists and lent buffers that every other layer's definitions use (specs/). It has no code.
+// The lowest layer: words for lists and lent buffers that every other layer's definitions use
+// (specs/). It has no code.

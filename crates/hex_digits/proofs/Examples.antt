@@ -1,4 +1,5 @@
--- The definitions of digits, tried on the first and the last of them, on the bytes beside those, and on short numbers.
+-- The definitions of digits, tried on the first and the last of them, on the bytes beside those,
+-- and on short numbers.
 -- Assumes nothing.
 use mathlib.Core.Path.{_≡_, refl}
 use mathlib.Core.List.{[], _∷_, map}

@@ -1,4 +1,5 @@
--- The settings and their ranges: document 01, "Settings and the log", first paragraph and number 1 of the table.
+-- The settings and their ranges: document 01, "Settings and the log", first paragraph and number 1
+-- of the table.
 -- Assumes nothing.
 use Prim.Native.Nat.{ℕ}
 use mathlib.Core.Bool.{Bool, not, _&&_}

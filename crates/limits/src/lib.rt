@@ -1,4 +1,5 @@
-// The settings of a call and the refusals that every call can answer with: document 01, "Settings and the log".
+// The settings of a call and the refusals that every call can answer with: document 01, "Settings
+// and the log".
 ghost use mathlib.Core.Path.{_≡_};
 ghost use mathlib.Core.Bool.{_&&_};
 ghost use Rattle.limits.specs.Refusals.{number, value};

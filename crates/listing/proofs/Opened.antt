@@ -1,4 +1,5 @@
--- One name for all definitions of this layer and of those below it: a proof by computation says `unfolding opened`.
+-- One name for all definitions of this layer and of those below it: a proof by computation says
+-- `unfolding opened`.
 -- Assumes nothing.
 use Rattle.discovery_spec.proofs.Opened.{opened as opened-search}
 use Rattle.reduction_spec.proofs.Opened.{opened as opened-redundancy}

@@ -1,5 +1,6 @@
--- A run and, after a completed one, the reduction of what it found: what both answer, and what the buffers hold on return, refusals included.
--- Document 01, the words of demand 3: after a completed run, thinning is lent what was listed, as the run left it, with a second buffer.
+-- A run and, after a completed one, the reduction of what it found: what both answer, and what the
+-- buffers hold on return, refusals included. Document 01, the words of demand 3: after a completed
+-- run, thinning is lent what was listed, as the run left it, with a second buffer.
 -- Assumes nothing.
 use Prim.Native.Nat.{ℕ}
 use mathlib.Core.Path.{_≡_}
@@ -20,8 +21,8 @@ use Rattle.reduction_spec.specs.Reduction.{reductionRefusal, reduced, reducedNu
 use Rattle.listing.specs.declared.Listing.{Listing}
 use Rattle.listing.specs.declared.Listing.the-variants.{Refused, Incomplete, Complete}
 
--- what a call is given to work with: the cache of rejected places (shelf), the list and the buffer for the reduced list, each with what it holds,
--- and the replay budget (allowance)
+-- what a call is given to work with: the cache of rejected places (shelf), the list and the buffer
+-- for the reduced list, each with what it holds, and the replay budget (allowance)
 pub record Resources : Type 0 where
   pub rejected : List ℕ
   pub found : List ℕ
@@ -35,7 +36,8 @@ resourcesOf rejected found kept budget = record { rejected = rejected; found = f
 unfoldable pub foundIn : Run → List ℕ → List ℕ
 foundIn run found = take (run .found) found
 
--- what is answered once the search has answered and left its list so, with a second buffer of that many words
+-- what is answered once the search has answered and left its list so, with a second buffer of that
+-- many words
 unfoldable pub listingOf : Discovered → List ℕ → ℕ → Listing
 listingOf (Answered.Refused refusal) found room = Refused refusal
 listingOf (Answered.Ran run) found room =
@@ -81,7 +83,8 @@ module _ (s : Settings) (text : List ℕ) (resources : Resources) where
   unfoldable pub listing : Listing
   listing = listingOf searched foundLeft (length (resources .kept))
 
-  -- a call goes as written: its answer, what it leaves in the three buffers, and the number and value of the answer
+  -- a call goes as written: its answer, what it leaves in the three buffers, and the number and
+  -- value of the answer
   pub record GoesAsWritten (answer : Listing) (rejected found kept : List ℕ) : Type 0 where
     pub answers : answer ≡ listing
     pub leaves-rejected : rejected ≡ rejectedLeft

@@ -17,8 +17,8 @@ pub enum Listing {
     Complete { run: Run, reduced: Reduced },
 }
 
-// Searches the candidates for those that the log fits, and after a completed run writes what it found, without the redundant places, into a
-// further buffer.
+// Searches the candidates for those that the log fits, and after a completed run writes what it
+// found, without the redundant places, into a further buffer.
 pub fn list_places(
     settings: Settings,
     text: &[u8],

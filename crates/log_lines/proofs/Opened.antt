@@ -1,4 +1,5 @@
--- One name for all definitions of this layer and of those below it: a proof by computation says `unfolding opened`.
+-- One name for all definitions of this layer and of those below it: a proof by computation says
+-- `unfolding opened`.
 -- Assumes nothing.
 use Rattle.log_lines.specs.Reading.{countIn, nextPhase, inPairs, activitiesIn, lineChecked}
 use Rattle.event_log_spec.proofs.Opened.{opened as opened-log-format}

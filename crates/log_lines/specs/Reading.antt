@@ -1,5 +1,5 @@
--- What the steps of checking a line answer, each from the line's own definitions. A line is read once, from its front: its count, then its
--- activities up to the line feed.
+-- What the steps of checking a line answer, each from the line's own definitions. A line is read
+-- once, from its front: its count, then its activities up to the line feed.
 -- Assumes nothing.
 use Prim.Native.Nat.{ℕ, suc, _+_, _%_}
 use mathlib.Core.Bool.{Bool, true, false, cond, not, _&&_}
@@ -29,7 +29,8 @@ countIn text =
     (Count.Cases (readHex (take countDigits text)))
     Count.Malformed
 
--- where a trace stands after one event more (Definition 1): the start, then activities that are neither, then the end and nothing more
+-- where a trace stands after one event more (Definition 1): the start, then activities that are
+-- neither, then the end and nothing more
 unfoldable pub nextPhase : Phase → ℕ → Phase
 nextPhase Before code = cond (eqb code 0) Inside Misplaced
 nextPhase Inside code = cond (eqb code 0) Misplaced (cond (eqb code 1) Complete Inside)
@@ -47,7 +48,8 @@ incomplete Misplaced = true
 unfoldable pub inPairs : Line → Bool
 inPairs l = l .ended && eqb (length (l .bytes) % 2) 0 && all isDigit (l .bytes)
 
--- what the rest of a line after its count says of the activities: where its line feed stands, and whether they have a fault
+-- what the rest of a line after its count says of the activities: where its line feed stands, and
+-- whether they have a fault
 unfoldable pub activitiesIn : ℕ → ℕ → Line → Activities
 activitiesIn A from l =
     cond
@@ -58,6 +60,7 @@ activitiesIn A from l =
     (endpointMisplaced (readPairs (l .bytes))))
     Activities.Malformed
 
--- checking the line that begins at `from`: the index after its line feed and its case count, or its first fault
+-- checking the line that begins at `from`: the index after its line feed and its case count, or its
+-- first fault
 unfoldable pub lineChecked : ℕ → ℕ → ℕ → Line → LineChecked
 lineChecked A line from l = answer Faulty (lineFault A line l) (Sound (suc (from + length (l .bytes))) (frameOf l .cases))

@@ -36,8 +36,8 @@ pub enum Phase {
     Misplaced,
 }
 
-// What the activities of a line say: where its line feed stands, whether one is of the activity bound or more, and whether an endpoint is
-// misplaced; or that the line has no such form.
+// What the activities of a line say: where its line feed stands, whether one is of the activity
+// bound or more, and whether an endpoint is misplaced; or that the line has no such form.
 pub enum Activities {
     Read {
         end: usize,

@@ -10,9 +10,10 @@ pub enum Input {
     Failed,
 }
 
-// Reads standard input into a buffer from its front, until it ends or the buffer is full. A read may give less than there is, so the next goes on behind
-// it. One that fails is no end: a log that was cut there could pass for a whole one. Which bytes the buffer then holds is left free: no contract says what
-// was read.
+// Reads standard input into a buffer from its front, until it ends or the buffer is full. A read
+// may give less than there is, so the next goes on behind it. One that fails is no end: a log that
+// was cut there could pass for a whole one. Which bytes the buffer then holds is left free: no
+// contract says what was read.
 pub fn read_input(buffer: &mut [u8]) -> Input
     ensures count { λ r. ⌜ Within (length (now (buffer .entry))) r ⌝ }
     ensures free { λ _. ⌜ length (now (buffer .exit)) ≡ length (now (buffer .entry)) ⌝ }

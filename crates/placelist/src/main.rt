@@ -1,5 +1,6 @@
-// The program placelist: it reads standard input, and writes the places of the log in it or the refusal. What it writes for what it reads is the work of
-// `reporter`. Where it cannot read or write, it says so on standard error.
+// The program placelist: it reads standard input, and writes the places of the log in it or the
+// refusal. What it writes for what it reads is the work of `reporter`. Where it cannot read or
+// write, it says so on standard error.
 use crate::input::Input;
 use crate::input::read_input;
 use libc::STDERR_FILENO;

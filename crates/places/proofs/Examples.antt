@@ -1,4 +1,5 @@
--- The definitions of sets, places and their order, tried on small sets and on the places of the source's Figure 1 and Definitions 9 to 11.
+-- The definitions of sets, places and their order, tried on small sets and on the places of the
+-- source's Figure 1 and Definitions 9 to 11.
 -- Assumes nothing.
 use Prim.Native.Nat.{ℕ}
 use mathlib.Core.Path.{_≡_, refl}
@@ -24,7 +25,8 @@ pub record SetExamples : Type 0 where
   pub apart : map (disjoint 0x0005) (0x000A ∷ 0x0006 ∷ []) ≡ true ∷ false ∷ []
   pub together : union 0x0005 0x0006 ≡ 0x0007
 
--- {0}, {0,1}, {0,1,2}, {0,2}, {1}, {1,2}, {2}: the order as a list, and as a relation of each to the next
+-- {0}, {0,1}, {0,1,2}, {0,2}, {1}, {1,2}, {2}: the order as a list, and as a relation of each to
+-- the next
 pub record OrderExamples : Type 0 where
   pub of-three : sets 3 3 ≡ 1 ∷ 3 ∷ 7 ∷ 5 ∷ 2 ∷ 6 ∷ 4 ∷ []
   pub of-two : sets 3 2 ≡ 1 ∷ 3 ∷ 5 ∷ 2 ∷ 6 ∷ 4 ∷ []
@@ -62,7 +64,8 @@ pub record PlaceExamples : Type 0 where
   pub first-refused : wordsRefusal (0x80008000 ∷ 0x00010000 ∷ 0 ∷ []) true ≡ some (InvalidPlace 1)
   pub short-refused : wordsRefusal (0x80008000 ∷ []) true ≡ some BufferTooSmall
   pub accepted : wordsRefusal (0x80008000 ∷ []) false ≡ none
-  -- the text after Definition 11: ({a}, {b, c}) is at least as light as ({a}, {b}), and not as ({a}, {d})
+  -- the text after Definition 11: ({a}, {b, c}) is at least as light as ({a}, {b}), and not as
+  -- ({a}, {d})
   pub light : map (lighter (place 0x0004 0x0018)) (place 0x0004 0x0008 ∷ place 0x0004 0x0020 ∷ []) ≡ true ∷ false ∷ []
   pub light-inputs : map (lighter (place 0x0004 0x0008)) (place 0x000C 0x0008 ∷ place 0x0008 0x0008 ∷ []) ≡ true ∷ false ∷ []
   pub apart : nonOverlapping (place 0x0001 0x0004) (place 0x0030 0x0002) ≡ true

@@ -1,4 +1,5 @@
--- One name for all definitions of this layer and of those below it: a proof by computation says `unfolding opened`.
+-- One name for all definitions of this layer and of those below it: a proof by computation says
+-- `unfolding opened`.
 -- Assumes nothing.
 use mathlib.Core.List.{flatMap}
 use Rattle.places.specs.Sets.{codes, size, within, disjoint, union}

@@ -1,4 +1,5 @@
--- The sets in the stated order, the candidates, and a candidate's descendants. Document 01, "Candidates and their order".
+-- The sets in the stated order, the candidates, and a candidate's descendants. Document 01,
+-- "Candidates and their order".
 -- Assumes nothing.
 use Prim.Native.Nat.{ℕ, zero, suc, _+_, _*_}
 use mathlib.Core.Bool.{Bool, not, _&&_}
@@ -15,7 +16,8 @@ use Rattle.places.specs.Places.{place, below, placeUnder}
 unfoldable pub candidateSet : ℕ → ℕ → ℕ → Bool
 candidateSet n m s = not (eqb s 0) && below n s && leb (size s) m
 
--- a candidate: a through place of codes below A, with no more inputs and outputs than the settings allow
+-- a candidate: a through place of codes below A, with no more inputs and outputs than the settings
+-- allow
 unfoldable pub candidate : Settings → Place → Bool
 candidate s p =
     placeUnder (s .activities) p && leb (size (p .inputs)) (s .inputs) && leb (size (p .outputs)) (s .outputs)
@@ -28,7 +30,8 @@ raised s = 2 * s
 abbrev pub raisedWithZero : ℕ → ℕ
 raisedWithZero s = 2 * s + 1
 
--- the non-empty sets of at most m codes below n, in the stated order: the set of code 0 alone; those that have code 0 and more; those without it
+-- the non-empty sets of at most m codes below n, in the stated order: the set of code 0 alone;
+-- those that have code 0 and more; those without it
 unfoldable pub sets : ℕ → ℕ → List ℕ
 sets zero m = []
 sets (suc n) zero = []

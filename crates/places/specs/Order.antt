@@ -7,7 +7,8 @@ use mathlib.Core.List.{List, [], _∷_}
 use Rattle.places.specs.declared.Place.{Place}
 use Rattle.places.specs.Sets.{codes}
 
--- of two ascending lists of codes the first comes first: it ends where the other goes on, or has the lower code where they first differ
+-- of two ascending lists of codes the first comes first: it ends where the other goes on, or has
+-- the lower code where they first differ
 pub data CodesBefore : List ℕ → List ℕ → Type 0 where
   ends : {b : ℕ} {t : List ℕ} → CodesBefore [] (b ∷ t)
   lower : {a b : ℕ} {s t : List ℕ} → a < b → CodesBefore (a ∷ s) (b ∷ t)

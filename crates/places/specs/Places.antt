@@ -1,5 +1,5 @@
--- Places, their 32-bit words, and how two places relate. Document 01, "Tokens in one trace" and "Candidates and their order"; the source's
--- Definitions 3, 8 and 10.
+-- Places, their 32-bit words, and how two places relate. Document 01, "Tokens in one trace" and
+-- "Candidates and their order"; the source's Definitions 3, 8 and 10.
 -- Assumes nothing.
 use Prim.Native.Nat.{ℕ, suc, _+_, _*_, _/_, _%_, _^_}
 use mathlib.Core.Bool.{Bool, not, _&&_}
@@ -50,8 +50,8 @@ unfoldable pub wordsFault : ℕ → List ℕ → Option Refusal
 wordsFault index [] = none
 wordsFault index (w ∷ ws) = firstOf (placeFault mostActivities index (placeOf w) ∷ wordsFault (suc index) ws ∷ [])
 
--- the refusal of a call that takes no settings and is lent a list of words and a buffer to be written: 7, then 8, cramped, where the buffer is
--- too short
+-- the refusal of a call that takes no settings and is lent a list of words and a buffer to be
+-- written: 7, then 8, cramped, where the buffer is too short
 unfoldable pub wordsRefusal : List ℕ → Bool → Option Refusal
 wordsRefusal words short =
     firstRefusal
@@ -66,7 +66,8 @@ wordsRefusal words short =
       result-room = none;
     })
 
--- p is at least as light as q (Definition 10): its inputs are among those of q, and it has all outputs of q
+-- p is at least as light as q (Definition 10): its inputs are among those of q, and it has all
+-- outputs of q
 unfoldable pub lighter : Place → Place → Bool
 lighter p q = within (p .inputs) (q .inputs) && within (q .outputs) (p .outputs)
 

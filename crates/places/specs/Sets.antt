@@ -1,4 +1,5 @@
--- Sets of activity codes as 16-bit numbers, code a as 2 to the power a. Document 01, "Tokens in one trace".
+-- Sets of activity codes as 16-bit numbers, code a as 2 to the power a. Document 01, "Tokens in one
+-- trace".
 -- Assumes nothing.
 use Prim.Native.Nat.{ℕ, _/_, _%_, _^_}
 use mathlib.Core.Bool.{Bool, not, _||_}

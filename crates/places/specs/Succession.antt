@@ -1,5 +1,6 @@
--- Where a search over sets goes on: the set after a given one in a list of sets, and the first set after it that does not extend it.
--- Document 01, "Candidates and their order" and the last paragraph of "The walk".
+-- Where a search over sets goes on: the set after a given one in a list of sets, and the first set
+-- after it that does not extend it. Document 01, "Candidates and their order" and the last
+-- paragraph of "The walk".
 -- Assumes nothing.
 use Prim.Native.Nat.{ℕ}
 use mathlib.Core.Bool.{cond, not}
@@ -34,12 +35,14 @@ setPast s list = firstSet (keep (λ (t : ℕ). not (extends s t)) (drop 1 (from 
 abbrev pub withOutputs : List ℕ → ℕ → List Place
 withOutputs inputs o = map (λ (i : ℕ). place i o) inputs
 
--- the places of the first output set with some input sets, then those of the further output sets with all
+-- the places of the first output set with some input sets, then those of the further output sets
+-- with all
 unfoldable pub rows : List ℕ → List ℕ → List ℕ → List Place
 rows firsts inputs [] = []
 rows firsts inputs (o ∷ os) = withOutputs firsts o ++ flatMap (withOutputs inputs) os
 
--- the candidates from c on: with its outputs those from its inputs on, then those with the output sets after
+-- the candidates from c on: with its outputs those from its inputs on, then those with the output
+-- sets after
 unfoldable pub candidatesFrom : Settings → Place → List Place
 candidatesFrom s c =
     let inputs = sets (s .activities) (s .inputs) in

@@ -10,7 +10,8 @@ use crate::place_of;
 use crate::place_under;
 use limits::MOST_ACTIVITIES;
 
-// The index of the first word that stands for no place, or the length of a list in which each stands for one.
+// The index of the first word that stands for no place, or the length of a list in which each
+// stands for one.
 pub fn first_invalid(words: &[u32]) -> usize
     ensures bounded { λ r. ⌜ r ≤ length (now (words .entry)) ⌝ }
     ensures fault { λ r. ⌜ wordsFault 0 (now (words .entry)) ≡ given (ltb r (length (now (words .entry)))) (InvalidPlace r) ⌝ }

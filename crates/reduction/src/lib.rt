@@ -1,4 +1,5 @@
-// Removing redundant places from a list: document 01, "Thinning and writing", where it is called thinning.
+// Removing redundant places from a list: document 01, "Thinning and writing", where it is called
+// thinning.
 ghost use mathlib.Core.Path.{_≡_};
 ghost use Prim.Native.Nat.{_≤_};
 ghost use lib.ListN.{length};
@@ -16,7 +17,8 @@ mod union; // union.rt: whether a place is a union of others
 // How many words that can be parts of a place are copied before it is searched.
 const ROOM: usize = 1024;
 
-// The words of a list whose places are not redundant, in their order, written from the front of a buffer that is at least as long.
+// The words of a list whose places are not redundant, in their order, written from the front of a
+// buffer that is at least as long.
 fn keep_irredundant(words: &[u32], kept: &mut [u32]) -> usize
     requires { ⌜ Listable (now words) × (length (now words) ≤ length (now kept)) ⌝ }
     ensures count { λ r. ⌜ r ≡ length (reducedWords (now (words .entry))) ⌝ }
@@ -37,7 +39,8 @@ fn keep_irredundant(words: &[u32], kept: &mut [u32]) -> usize
     count
 }
 
-// Writes the words of a list whose places are not redundant into a second buffer, in their order, and answers how many they are.
+// Writes the words of a list whose places are not redundant into a second buffer, in their order,
+// and answers how many they are.
 pub fn reduce(words: &[u32], kept: &mut [u32]) -> Reduced
     ensures answer { λ r. ⌜ r ≡ reduced (now (words .entry)) (length (now (kept .entry))) ⌝ }
     ensures list { λ _. ⌜ now (kept .exit) ≡ reducedAfter (now (words .entry)) (now (kept .entry)) ⌝ }

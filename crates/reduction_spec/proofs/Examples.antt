@@ -1,4 +1,5 @@
--- The definition of a reduced list, tried on the places of the source's Figure 1 and on unions and near-misses of small places.
+-- The definition of a reduced list, tried on the places of the source's Figure 1 and on unions and
+-- near-misses of small places.
 -- Assumes nothing.
 use Prim.Native.Nat.{ℕ}
 use mathlib.Core.Path.{_≡_, refl}
@@ -19,7 +20,8 @@ use Rattle.reduction_spec.proofs.Opened.{opened}
 abbrev pair : ℕ → ℕ → ℕ
 pair inputs outputs = word (place inputs outputs)
 
--- p1 to p5 of Figure 1; p1 and p5 together are the redundant place that the text before Definition 9 adds
+-- p1 to p5 of Figure 1; p1 and p5 together are the redundant place that the text before Definition
+-- 9 adds
 abbrev five : List ℕ
 five = map word figure1
 

@@ -1,5 +1,6 @@
--- Whether a place is a union, as the exact cover problem that the code solves: take words of the list away from the whole, one after the other,
--- until nothing is left. Over list words, in which the inputs and the outputs are one set of 32 activities. Document 01, "Some places and their
+-- Whether a place is a union, as the exact cover problem that the code solves: take words of the
+-- list away from the whole, one after the other, until nothing is left. Over list words, in which
+-- the inputs and the outputs are one set of 32 activities. Document 01, "Some places and their
 -- forms".
 -- Assumes nothing.
 use Prim.Native.Nat.{ℕ, _-_, _*_, _/_, _%_}
@@ -19,7 +20,8 @@ use Rattle.places.specs.Places.{outputUnit, placeOf, placeUnder}
 unfoldable pub Listable : List ℕ → Type 0
 Listable words = Each (λ (w : ℕ). placeUnder mostActivities (placeOf w) ≡ true) words
 
--- a word can be the next part of what is left of a whole: all its activities are left, and it is not the whole itself
+-- a word can be the next part of what is left of a whole: all its activities are left, and it is
+-- not the whole itself
 unfoldable pub usable : ℕ → ℕ → ℕ → Bool
 usable whole left w = eqb (bitAnd w left) w && not (eqb w whole)
 
@@ -50,7 +52,8 @@ manyInputs left w = leb (inputCount left * outputCount w) (inputCount w * output
 unfoldable pub fewInputs : ℕ → ℕ → Bool
 fewInputs left w = leb (inputCount w * outputCount left) (inputCount left * outputCount w)
 
--- of the words that can be the next part, not all have too few inputs for their outputs, and not all too many
+-- of the words that can be the next part, not all have too few inputs for their outputs, and not
+-- all too many
 unfoldable pub balanced : List ℕ → ℕ → ℕ → Bool
 balanced words whole left =
     any (λ (w : ℕ). usable whole left w && manyInputs left w) words && any (λ (w : ℕ). usable whole left w && fewInputs left w) words

@@ -1,5 +1,6 @@
--- A place that is the union of two or more non-overlapping places of a list: once as the sentence says it, once as a test that computes.
--- Document 01, "Thinning and writing"; the source's Definition 9, but with two parts or more where that allows a single one.
+-- A place that is the union of two or more non-overlapping places of a list: once as the sentence
+-- says it, once as a test that computes. Document 01, "Thinning and writing"; the source's
+-- Definition 9, but with two parts or more where that allows a single one.
 -- Assumes nothing.
 use Prim.Native.Nat.{ℕ, _≤_}
 use mathlib.Core.Path.{_≡_}

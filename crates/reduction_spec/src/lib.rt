@@ -1,4 +1,5 @@
-// Removing redundant places from a list: document 01, "Thinning and writing", where it is called thinning.
+// Removing redundant places from a list: document 01, "Thinning and writing", where it is called
+// thinning.
 use limits::Refusal;
 
 // What reducing a list answers: how many words were kept, or the refusal.

@@ -1,4 +1,5 @@
--- The definitions of the steps of replaying and judging, tried on each sign of the balances and each check of the arguments.
+-- The definitions of the steps of replaying and judging, tried on each sign of the balances and
+-- each check of the arguments.
 -- Assumes nothing.
 use mathlib.Core.Path.{_≡_, refl}
 use mathlib.Core.Bool.{true, false}

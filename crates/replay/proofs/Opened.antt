@@ -1,4 +1,5 @@
--- One name for all definitions of this layer and of those below it: a proof by computation says `unfolding opened`.
+-- One name for all definitions of this layer and of those below it: a proof by computation says
+-- `unfolding opened`.
 -- Assumes nothing.
 use Rattle.replay.specs.Replaying.{argumentsChecked, kindOf, withCases}
 use Rattle.event_log.proofs.Opened.{opened as opened-event-log}

@@ -1,4 +1,5 @@
-// Judging a place over the frames of a log that was checked: document 01, "Tokens in one trace", second paragraph.
+// Judging a place over the frames of a log that was checked: document 01, "Tokens in one trace",
+// second paragraph.
 ghost use mathlib.Core.Path.{_≡_};
 ghost use Prim.Native.Nat.{_+_, _^_, _≤_, _<_};
 ghost use lib.ListN.{length, getD};
@@ -33,7 +34,8 @@ fn add_cases(counts: &mut [u64; 4], tokens: Tokens, cases: u64)
     counts[kind] += cases;
 }
 
-// The four case counts of a place over the frames of a log that was accepted, from one line on up to another.
+// The four case counts of a place over the frames of a log that was accepted, from one line on up
+// to another.
 pub fn count_cases(text: &[u8], index: &[u64], from: usize, to: usize, place: Place) -> CaseCounts
     requires { ⌜ Indexed (now text) (now index) × (to ≤ length (now index)) ⌝ }
     ensures { λ r. ⌜ r ≡ caseCounts place (framesBetween from to (now (text .entry))) ⌝ }

@@ -30,7 +30,8 @@ use token_replay::replay_trace;
 
 mod judgement; // judgement.rt: the case counts of a place and the verdict on it
 
-// Checks the arguments of a call on a log and a place, in the order of checks. Whether the call's settings are in their ranges is handed in.
+// Checks the arguments of a call on a log and a place, in the order of checks. Whether the call's
+// settings are in their ranges is handed in.
 fn check_arguments(activities: u8, in_range: bool, text: &[u8], place: Place) -> Checked
     ensures { λ r. ⌜ r ≡ argumentsChecked activities in_range (now (text .entry)) place ⌝ }
 {
@@ -64,7 +65,8 @@ pub fn replay_first_trace(activities: u8, text: &[u8], place: Place) -> Replayed
     }
 }
 
-// The verdict on a place over a log that was accepted, and of which there is an index: nothing is checked or looked for again.
+// The verdict on a place over a log that was accepted, and of which there is an index: nothing is
+// checked or looked for again.
 pub fn verdict_over(threshold: u16, text: &[u8], index: &[u64], place: Place) -> Verdict
     requires { ⌜ (threshold ≤ 1000) × Indexed (now text) (now index) ⌝ }
     ensures { λ r. ⌜ r ≡ verdict threshold (framesOf (now (text .entry))) place ⌝ }

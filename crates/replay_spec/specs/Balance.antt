@@ -36,7 +36,8 @@ leastBalance p trace = leastOf (map (balanceAt p trace) (upTo (length trace)))
 unfoldable pub lastBalance : Place → List ℕ → ℤ
 lastBalance p trace = subℕ (count (p .inputs) trace) (count (p .outputs) trace)
 
--- a trace underfeeds the place if a token is missing at some event, and overfeeds it if tokens are left at the end (Definition 5); it may do both
+-- a trace underfeeds the place if a token is missing at some event, and overfeeds it if tokens are
+-- left at the end (Definition 5); it may do both
 unfoldable pub underfeeds : List ℕ → Place → Bool
 underfeeds trace p = ltZ (leastBalance p trace) (pos 0)
 

@@ -1,4 +1,5 @@
--- The call's answer and what it leaves in the buffer, tried at the least room and on an input that is refused.
+-- The call's answer and what it leaves in the buffer, tried at the least room and on an input that
+-- is refused.
 -- Assumes nothing.
 use mathlib.Core.Path.{_≡_, refl}
 use mathlib.Core.List.{[], _∷_, _++_}

@@ -1,5 +1,5 @@
--- All of placelist but its reads and writes, as one call on the bytes read and a buffer for those to be written. Document 01, "Thinning and writing",
--- last paragraph.
+-- All of placelist but its reads and writes, as one call on the bytes read and a buffer for those
+-- to be written. Document 01, "Thinning and writing", last paragraph.
 -- Assumes nothing.
 use Prim.Native.Nat.{ℕ, _+_, _*_}
 use mathlib.Core.List.{List}
@@ -33,7 +33,8 @@ reportingRefusal room = given (ltb room mostOutput) BufferTooSmall
 unfoldable pub reported : List ℕ → ℕ → Written
 reported input room = answer Refused (reportingRefusal room) (Bytes (length (placelist input)))
 
--- what the buffer holds on return: what placelist writes, then its old tail; after a refusal, what it held before
+-- what the buffer holds on return: what placelist writes, then its old tail; after a refusal, what
+-- it held before
 unfoldable pub outputAfter : List ℕ → List ℕ → List ℕ
 outputAfter input before =
     answer (λ (r : Refusal). before) (reportingRefusal (length before)) (overwrite (placelist input) before)

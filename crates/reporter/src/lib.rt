@@ -1,4 +1,5 @@
-// All of the program placelist but its reads and writes: document 01, "Thinning and writing", last paragraph.
+// All of the program placelist but its reads and writes: document 01, "Thinning and writing", last
+// paragraph.
 ghost use mathlib.Core.Path.{_≡_};
 ghost use Prim.Native.Nat.{_≤_};
 ghost use lib.ListN.{length};
@@ -81,8 +82,8 @@ fn report_input(input: &[u8], output: &mut [u8]) -> usize
     }
 }
 
-// Writes what placelist writes for an input, and answers how many bytes that is. A buffer that is too short for the longest output is refused, and
-// left as it was; a longer one keeps its tail.
+// Writes what placelist writes for an input, and answers how many bytes that is. A buffer that is
+// too short for the longest output is refused, and left as it was; a longer one keeps its tail.
 pub fn report_places(input: &[u8], output: &mut [u8]) -> Written
     ensures answer { λ r. ⌜ r ≡ reported (now (input .entry)) (length (now (output .entry))) ⌝ }
     ensures output { λ _. ⌜ now (output .exit) ≡ outputAfter (now (input .entry)) (now (output .entry)) ⌝ }

@@ -1,5 +1,6 @@
--- The worked cases of document 01 hold: each figure is computed from the definitions. M11's run with a shelf of 15
--- or more is computed at 15 and at 16; at 16 it leaves room unused, so every larger room gives the same run.
+-- The worked cases of document 01 hold: each figure is computed from the definitions. M11's run
+-- with a shelf of 15 or more is computed at 15 and at 16; at 16 it leaves room unused, so every
+-- larger room gives the same run.
 -- Assumes nothing.
 use Prim.Native.Nat.{ℕ, _≤_}
 use native.Mathlib.Nat.{eq-or-lt-of-le}

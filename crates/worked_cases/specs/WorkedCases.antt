@@ -1,5 +1,6 @@
--- The worked cases of document 01, "Replays worth keeping", as rows of one statement: M1 to M12 with every figure of the table and of the
--- paragraph below it, and the case of placelist. proofs/Computed.antt proves it. Assumes nothing.
+-- The worked cases of document 01, "Replays worth keeping", as rows of one statement: M1 to M12
+-- with every figure of the table and of the paragraph below it, and the case of placelist.
+-- proofs/Computed.antt proves it. Assumes nothing.
 use Prim.Native.Nat.{ℕ, _≤_}
 use mathlib.Core.Path.{_≡_}
 use mathlib.Core.List.{List, [], _∷_, map}
@@ -66,7 +67,8 @@ settings = record { activities = 3; inputs = 2; outputs = 2; threshold = 0 }
 abbrev pub foundWords : List ℕ
 foundWords = map word (place 0x0001 0x0002 ∷ place 0x0004 0x0002 ∷ place 0x0005 0x0006 ∷ place 0x0001 0x0004 ∷ [])
 
--- a run of M11: its shelf, its list and its allowance; what it lists; and of its answer end, listed, shelved, replays and visits
+-- a run of M11: its shelf, its list and its allowance; what it lists; and of its answer end,
+-- listed, shelved, replays and visits
 pub record M11Run (rejectedRoom foundRoom budget : ℕ) (words : List ℕ) (end found rejected replays visits : ℕ) : Type 0 where
   pub finds :
       stateOf (run settings single (holding rejectedRoom foundRoom budget)) .found ≡ words

@@ -1,4 +1,5 @@
--- One name for all definitions of this layer and of those below it: a proof by computation says `unfolding opened`.
+-- One name for all definitions of this layer and of those below it: a proof by computation says
+-- `unfolding opened`.
 -- Assumes nothing.
 use Rattle.writer.specs.Writing.{placeLine, listText, writingRefusal, written, writtenNumber, writtenValue, writtenAfter}
 use Rattle.places.proofs.Opened.{opened as opened-places}

@@ -35,7 +35,8 @@ fn write_line(word: u32, line: &mut [u8])
     line[LINE_DIGITS] = b'\n';
 }
 
-// Writes the lines of a list from the front of a buffer that has room for them, and answers their bytes.
+// Writes the lines of a list from the front of a buffer that has room for them, and answers their
+// bytes.
 pub fn write_lines(words: &[u32], text: &mut [u8]) -> usize
     requires { ⌜ lineBytes * length (now words) ≤ length (now text) ⌝ }
     ensures count { λ r. ⌜ r ≡ length (listText (now (words .entry))) ⌝ }
@@ -52,8 +53,9 @@ pub fn write_lines(words: &[u32], text: &mut [u8]) -> usize
     count
 }
 
-// Document 01's writer: gives each list word as four digits of I, four of O and a line feed, and answers the bytes written. A refusal leaves the
-// buffer as it was, and a longer buffer keeps its tail. The bytes of a list may be more than a number holds, so the room is divided.
+// Document 01's writer: gives each list word as four digits of I, four of O and a line feed, and
+// answers the bytes written. A refusal leaves the buffer as it was, and a longer buffer keeps its
+// tail. The bytes of a list may be more than a number holds, so the room is divided.
 pub fn write_places(words: &[u32], text: &mut [u8]) -> Written
     ensures answer { λ r. ⌜ r ≡ written (now (words .entry)) (length (now (text .entry))) ⌝ }
     ensures text { λ _. ⌜ now (text .exit) ≡ writtenAfter (now (words .entry)) (now (text .entry)) ⌝ }

@@ -1,4 +1,5 @@
--- `assurance::list_twice` meets its contract: both calls go as written, so demand 3 holds of what the caller sees of them.
+-- `assurance::list_twice` meets its contract: both calls go as written, so demand 3 holds of what
+-- the caller sees of them.
 -- Assumes nothing.
 use borrow.Author.Needs.{needs}
 use Rattle.assurance_spec.proofs.laws.Demand3Holds.{demand-3-seen}

@@ -1,4 +1,5 @@
--- `candidate_order::is_lighter` meets its contract: both tests are those of the definition, and where the first fails the definition fails too.
+-- `candidate_order::is_lighter` meets its contract: both tests are those of the definition, and
+-- where the first fails the definition fails too.
 -- Assumes nothing.
 use mathlib.Core.Path.{sym, _∙_}
 use borrow.Author.Needs.{needs}

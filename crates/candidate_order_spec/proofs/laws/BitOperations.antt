@@ -1,5 +1,6 @@
--- What operations on a set's bits say of its codes. The bits that two sets share are the codes of both, so a set is within another exactly if
--- the bits that they share are all its own. A set has as many codes as bits that are set, since halving it takes the same from both counts.
+-- What operations on a set's bits say of its codes. The bits that two sets share are the codes of
+-- both, so a set is within another exactly if the bits that they share are all its own. A set has
+-- as many codes as bits that are set, since halving it takes the same from both counts.
 -- Assumes nothing.
 use Prim.Native.Nat.{ℕ, zero, suc, _+_, _*_, _/_, _%_, _^_, _≤_, _<_}
 use native.Mathlib.Omega.{arith}

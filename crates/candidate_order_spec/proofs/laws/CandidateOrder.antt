@@ -1,6 +1,7 @@
--- The list of candidates holds exactly the candidates, each once and in the stated order. It is made of every two sets of the two lists of sets, and a
--- place is a candidate where each of its sets is one that a candidate may have; so what those lists hold, their order and their length say the same of
--- this one.
+-- The list of candidates holds exactly the candidates, each once and in the stated order. It is
+-- made of every two sets of the two lists of sets, and a place is a candidate where each of its
+-- sets is one that a candidate may have; so what those lists hold, their order and their length say
+-- the same of this one.
 -- Assumes nothing.
 use Prim.Native.Nat.{ℕ, _*_, _^_, _<_, _≤_}
 use native.Mathlib.Omega.{arith}
@@ -42,7 +43,8 @@ sixteen-bits : (n s : ℕ) → n ≤ mostActivities → s < 2 ^ n → s < 65536
 sixteen-bits n s few small = omega (arith, pow-mono {i = n} {j = 16} few)
 
 module _ (s : Settings) where
-  -- the sets that may be a candidate's inputs, those that may be its outputs, and the candidates of given outputs
+  -- the sets that may be a candidate's inputs, those that may be its outputs, and the candidates of
+  -- given outputs
   abbrev inputSets : List ℕ
   inputSets = sets (s .activities) (s .inputs)
 

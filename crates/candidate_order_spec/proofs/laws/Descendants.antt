@@ -1,5 +1,6 @@
--- A descendant of a candidate is at least as heavy as it: it has the same outputs and more inputs. A descendant of a descendant is a descendant: an
--- input that it has more than the first candidate is either one that the second already has, or above all inputs of the second, among which are
+-- A descendant of a candidate is at least as heavy as it: it has the same outputs and more inputs.
+-- A descendant of a descendant is a descendant: an input that it has more than the first candidate
+-- is either one that the second already has, or above all inputs of the second, among which are
 -- those of the first.
 -- Assumes nothing.
 use Prim.Native.Nat.{ℕ, _<_}

@@ -1,5 +1,6 @@
--- A set of codes below 15 with each code one more is the set doubled, and with code 0 besides it is one more than that: half of either is the set
--- itself, so its code a + 1 is the set's code a, and whether it is odd says whether it has code 0.
+-- A set of codes below 15 with each code one more is the set doubled, and with code 0 besides it is
+-- one more than that: half of either is the set itself, so its code a + 1 is the set's code a, and
+-- whether it is odd says whether it has code 0.
 -- Assumes nothing.
 use Prim.Native.Nat.{ℕ, suc, _+_, _*_, _^_, _<_}
 use native.Mathlib.Omega.{arith}

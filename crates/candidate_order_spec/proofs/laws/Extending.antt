@@ -1,5 +1,6 @@
--- One set extends another exactly if it does so with each code one more, and with code 0 besides in both; what has code 0 is extended by no set
--- without it. The codes of such sets are those of the sets themselves, each one more, and 0 is below all of them.
+-- One set extends another exactly if it does so with each code one more, and with code 0 besides in
+-- both; what has code 0 is extended by no set without it. The codes of such sets are those of the
+-- sets themselves, each one more, and 0 is below all of them.
 -- Assumes nothing.
 use Prim.Native.Nat.{ℕ, suc, _+_, _*_, _^_, _<_}
 use native.Mathlib.Omega.{arith}

@@ -1,5 +1,6 @@
--- A list from a given set on: where that set stands in the list, in a front part of it, or in the images of a list; and the list from the first
--- set of an end part is that end part, where no set stands in the list twice.
+-- A list from a given set on: where that set stands in the list, in a front part of it, or in the
+-- images of a list; and the list from the first set of an end part is that end part, where no set
+-- stands in the list twice.
 -- Assumes nothing.
 use Prim.Native.Nat.{ℕ, _<_}
 use native.Mathlib.Omega.{arith}
@@ -68,7 +69,8 @@ from-map f injective s (t ∷ ts) =
     (λ e. rw (e, eq-eqb (f s) (f t) (ap f (eqb-true s t e))))
     (λ e. rw (e, ne-eqb (f s) (f t) (λ same. eqb-false s t e (injective s t same))) (from-map f injective s ts))
 
--- the list from the first set of its end part on; no set is 0, so where that part is empty nothing is left
+-- the list from the first set of its end part on; no set is 0, so where that part is empty nothing
+-- is left
 pub from-end : (before rest : List ℕ) → Each (λ (s : ℕ). 0 < s) before → Ordered Apart (before ++ rest)
     → from (firstSet rest) (before ++ rest) ≡ rest
 unfolding from firstSet

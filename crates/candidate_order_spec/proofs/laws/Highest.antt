@@ -1,5 +1,6 @@
--- The highest code h of a set that is not empty: the set is at least 2 to the power h and below twice that. No other code is so, since powers
--- of two grow; and as doubling a set doubles both bounds, it makes the highest code one more.
+-- The highest code h of a set that is not empty: the set is at least 2 to the power h and below
+-- twice that. No other code is so, since powers of two grow; and as doubling a set doubles both
+-- bounds, it makes the highest code one more.
 -- Assumes nothing.
 use Prim.Native.Nat.{ℕ, suc, _+_, _-_, _*_, _%_, _^_, _≤_, _<_}
 use native.Mathlib.Omega.{arith}

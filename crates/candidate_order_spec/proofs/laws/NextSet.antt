@@ -1,6 +1,8 @@
--- The set past a given one and the set after it, by the highest code: past a set its highest code moves up by one, or falls away where it is
--- the highest of all, and then the next one moves up; after a set comes the code above its highest, where there is room for it. Of a set with
--- each code one more these give what they give of the set itself, with each code one more, since its highest code is one more too.
+-- The set past a given one and the set after it, by the highest code: past a set its highest code
+-- moves up by one, or falls away where it is the highest of all, and then the next one moves up;
+-- after a set comes the code above its highest, where there is room for it. Of a set with each code
+-- one more these give what they give of the set itself, with each code one more, since its highest
+-- code is one more too.
 -- Assumes nothing.
 use Prim.Native.Nat.{ℕ, suc, _+_, _-_, _*_, _^_, _≤_, _<_}
 use native.Mathlib.Omega.{arith}
@@ -28,7 +30,8 @@ pastBy n s = cond (ltb (suc (highest s)) n) (movedUp s) (movedUp (s - 2 ^ highes
 unfoldable pub afterBy : ℕ → ℕ → ℕ → ℕ
 afterBy n m s = cond (ltb (suc (highest s)) n && ltb (size s) m) (s + 2 ^ suc (highest s)) (pastBy n s)
 
--- the first of some sets raised with code 0, where t is the first of them, and the set of code 1 alone where there are none
+-- the first of some sets raised with code 0, where t is the first of them, and the set of code 1
+-- alone where there are none
 unfoldable pub raisedOrOne : ℕ → ℕ
 raisedOrOne t = cond (eqb t 0) 2 (2 * t + 1)
 
@@ -63,8 +66,8 @@ cond-ap : (f : ℕ → ℕ) (b : Bool) (x y : ℕ) → cond b (f x) (f y) ≡ f 
 cond-ap f true x y = refl
 cond-ap f false x y = refl
 
--- past and after the set of code 0 alone: where there is no other code nothing, where there are others that of code 1 alone, and that of both
--- where two are allowed
+-- past and after the set of code 0 alone: where there is no other code nothing, where there are
+-- others that of code 1 alone, and that of both where two are allowed
 pub past-last : pastBy 1 1 ≡ 0
 unfolding pastBy movedUp
 past-last = rw highest-one

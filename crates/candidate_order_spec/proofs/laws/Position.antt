@@ -1,5 +1,6 @@
--- Where a set stands in the list of sets: directly after it those that extend it, then others, none of which extends it; and the first of
--- either is what the highest code says. The list is made of those for one code less, with each code one more, and so are these parts of it.
+-- Where a set stands in the list of sets: directly after it those that extend it, then others, none
+-- of which extends it; and the first of either is what the highest code says. The list is made of
+-- those for one code less, with each code one more, and so are these parts of it.
 -- Assumes nothing.
 use Prim.Native.Nat.{ℕ, zero, suc, _+_, _*_, _^_, _≤_, _<_}
 use native.Mathlib.Omega.{arith}
@@ -19,7 +20,8 @@ use Rattle.candidate_order_spec.proofs.laws.From.{from-later, each-from
 use Rattle.candidate_order_spec.proofs.laws.NextSet.{pastBy, afterBy, raisedOrOne, raised-some, past-last, past-one, after-last, after-one, after-both, past-raised, past-raised-zero, after-raised, after-raised-zero}
 use Rattle.candidate_order_spec.proofs.laws.SetList.{below-last, size-positive, Listed, sets-listed}
 
--- where s stands in the list for n and m: before the sets that extend it, and those before all others that come later
+-- where s stands in the list for n and m: before the sets that extend it, and those before all
+-- others that come later
 pub record Position (n m s : ℕ) : Type 0 where
   pub extending : List ℕ
   pub others : List ℕ

@@ -1,5 +1,6 @@
--- The ordered list of sets holds exactly the sets that a candidate may have, and fewer than 2 to the power n of them. A set is its half with each code
--- one more, with or without code 0, and the list is made so from the lists for one code less.
+-- The ordered list of sets holds exactly the sets that a candidate may have, and fewer than 2 to
+-- the power n of them. A set is its half with each code one more, with or without code 0, and the
+-- list is made so from the lists for one code less.
 -- Assumes nothing.
 use Prim.Native.Nat.{ℕ, zero, suc, _/_, _%_, _^_, _<_, _≤_}
 use native.Mathlib.Omega.{arith}
@@ -103,7 +104,8 @@ module _ (n m : ℕ) (few : suc n ≤ mostActivities) (h : ℕ) where
         sized = λ _. omega (arith, size-raised h (below-last n h few (omega arith)), l .sized few);
       }
 
--- a set is in the list where its half is in the list for one code less; or where that is empty, and the set has code 0
+-- a set is in the list where its half is in the list for one code less; or where that is empty, and
+-- the set has code 0
 module _ (n m h : ℕ) where
   in-with-zero : (0 < h → List·Memᴰ h (sets n m)) → List·Memᴰ (raisedWithZero h) (sets (suc n) (suc m))
   unfolding sets

@@ -1,5 +1,6 @@
--- The list of sets is in the stated order, and so holds each set once: with each code one more the order stays, a set of code 0 alone comes before
--- those that have more, and all of them come before those without code 0.
+-- The list of sets is in the stated order, and so holds each set once: with each code one more the
+-- order stays, a set of code 0 alone comes before those that have more, and all of them come before
+-- those without code 0.
 -- Assumes nothing.
 use Prim.Native.Nat.{ℕ, zero, suc, _<_, _≤_, suc-le-suc}
 use native.Mathlib.Nat.{zero-lt-suc}
@@ -68,7 +69,8 @@ module _ (n : ℕ) (few : suc n ≤ mostActivities) where
   ascending-without-zero m h =
       ordered-map raised (ordered-among (λ s t l k. raised-before s t (short m s l) (short m t k)) (sets-listed n m) h)
 
-  -- a set with code 0 comes before all sets without it, and that of code 0 alone before those that have more
+  -- a set with code 0 comes before all sets without it, and that of code 0 alone before those that
+  -- have more
   zero-first : (m s : ℕ) → s < 32768 → Each (SetBefore (raisedWithZero s)) (map raised (sets n m))
   zero-first m s small =
       each-map raised (each-imply (λ t l. zero-before s t small (short m t l) (sized m t l)) (sets-listed n m))

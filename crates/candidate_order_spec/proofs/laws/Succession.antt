@@ -1,6 +1,7 @@
--- Where a search over the list of sets goes on. The list from a set on is that set and the list from the one after it on; and it is that set,
--- the sets that extend it, and the list from the one past it on, none of which extends it. The set after a given one and the set past it are
--- what the highest code says, and are 0 or such sets again.
+-- Where a search over the list of sets goes on. The list from a set on is that set and the list
+-- from the one after it on; and it is that set, the sets that extend it, and the list from the one
+-- past it on, none of which extends it. The set after a given one and the set past it are what the
+-- highest code says, and are 0 or such sets again.
 -- Assumes nothing.
 use Prim.Native.Nat.{ℕ, zero, suc, _≤_}
 use native.Mathlib.Omega.{arith}
@@ -40,7 +41,8 @@ first-member zero m some-code some = absurd (omega arith)
 first-member (suc n) zero some-code some = absurd (omega arith)
 first-member (suc n) (suc m) some-code some = List·Memᴰ·head refl
 
--- the list for n and m from s on: s, what extends it, and the list from the set past s on, of which nothing extends it
+-- the list for n and m from s on: s, what extends it, and the list from the set past s on, of which
+-- nothing extends it
 pub record PastFrom (n m s : ℕ) : Type 0 where
   pub extending : List ℕ
   pub split : from s (sets n m) ≡ s ∷ (extending ++ from (setPast s (sets n m)) (sets n m))

@@ -1,4 +1,5 @@
--- `capi::placelist_judge` meets its contract: it hands on what judging answers, by cases, with the verdict's mark.
+-- `capi::placelist_judge` meets its contract: it hands on what judging answers, by cases, with the
+-- verdict's mark.
 -- Assumes nothing.
 use mathlib.Core.Path.{_≡_, refl, sym, _∙_}
 use borrow.Author.Needs.{needs}

@@ -1,4 +1,5 @@
--- `capi::placelist_reduce` meets its contract: it hands on what the reduction answers, by cases, and leaves the buffer as the reduction does.
+-- `capi::placelist_reduce` meets its contract: it hands on what the reduction answers, by cases,
+-- and leaves the buffer as the reduction does.
 -- Assumes nothing.
 use mathlib.Core.Path.{_≡_, refl, sym, _∙_}
 use lib.ListN.{length}

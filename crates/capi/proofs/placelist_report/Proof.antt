@@ -1,4 +1,5 @@
--- `capi::placelist_report` meets its contract: it hands on what the reporter answers, and leaves the buffer as the reporter does.
+-- `capi::placelist_report` meets its contract: it hands on what the reporter answers, and leaves
+-- the buffer as the reporter does.
 -- Assumes nothing.
 use mathlib.Core.Path.{_≡_, sym}
 use lib.ListN.{length}

@@ -1,4 +1,5 @@
--- `capi::placelist_search` meets its contract: it hands on what the search answers, by cases, and leaves the two buffers as the search does.
+-- `capi::placelist_search` meets its contract: it hands on what the search answers, by cases, and
+-- leaves the two buffers as the search does.
 -- Assumes nothing.
 use mathlib.Core.Path.{_≡_, refl, sym, _∙_}
 use borrow.Author.Needs.{needs}

@@ -1,4 +1,5 @@
--- `capi::placelist_write` meets its contract: it hands on what the writer answers, and leaves the buffer as the writer does.
+-- `capi::placelist_write` meets its contract: it hands on what the writer answers, and leaves the
+-- buffer as the writer does.
 -- Assumes nothing.
 use mathlib.Core.Path.{_≡_, sym}
 use lib.ListN.{length}

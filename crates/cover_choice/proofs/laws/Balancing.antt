@@ -1,4 +1,5 @@
--- Whether words are balanced, found one word after the other: it is enough to know whether one so far was rich in inputs and one poor.
+-- Whether words are balanced, found one word after the other: it is enough to know whether one so
+-- far was rich in inputs and one poor.
 -- Assumes nothing.
 use Prim.Native.Nat.{ℕ, _+_, _*_, _≤_, _<_}
 use native.Mathlib.Nat.{mul-le-mul}

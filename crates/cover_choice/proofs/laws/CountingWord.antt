@@ -1,5 +1,5 @@
--- The activities of a word, counted one after the other: an activity that is counted is taken from the rest, which keeps its other activities, so each is
--- counted once.
+-- The activities of a word, counted one after the other: an activity that is counted is taken from
+-- the rest, which keeps its other activities, so each is counted once.
 -- Assumes nothing.
 use Prim.Native.Nat.{ℕ, zero, suc, _+_, _-_, _*_, _/_, _%_, _^_, _≤_, _<_}
 use native.Mathlib.Omega.{arith}

@@ -1,5 +1,6 @@
--- The activities that one, two and three words can cover, found one word after the other. A word that can be the next part adds one to the choices
--- of each of its activities, so an activity that it has moves from those that n words can cover to those that n + 1 can.
+-- The activities that one, two and three words can cover, found one word after the other. A word
+-- that can be the next part adds one to the choices of each of its activities, so an activity that
+-- it has moves from those that n words can cover to those that n + 1 can.
 -- Assumes nothing.
 use Prim.Native.Nat.{ℕ, zero, suc, _+_, _-_, _^_, _≤_, min, max}
 use native.Mathlib.Omega.{arith}
@@ -22,8 +23,8 @@ tally once twice thrice = record { once = once; twice = twice; thrice = thrice }
 at-least-one : (n : ℕ) → 1 ≤ n → min 1 n ≡ 1
 at-least-one n l = omega arith
 
--- an activity in n words, and in a further one or not: it is in two of them all where it was in two before, or where it was in one and is in the
--- further one
+-- an activity in n words, and in a further one or not: it is in two of them all where it was in two
+-- before, or where it was in one and is in the further one
 in-two : (n b : ℕ) → b ≤ 1 → max (min 1 (n - 1)) (min (min 1 n) b) ≡ min 1 (n + b - 1)
 in-two zero b few = omega arith
 in-two (suc zero) b few = omega arith

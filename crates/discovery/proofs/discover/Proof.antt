@@ -1,5 +1,5 @@
--- `discovery::discover` meets its contract: settings out of their ranges and a text that is no log are refused, and else the log's frames are indexed
--- and the candidates searched from the first on.
+-- `discovery::discover` meets its contract: settings out of their ranges and a text that is no log
+-- are refused, and else the log's frames are indexed and the candidates searched from the first on.
 -- Assumes nothing.
 use native.Mathlib.Omega.{arith}
 use mathlib.Core.Path.{_≡_, refl, sym, _∙_}

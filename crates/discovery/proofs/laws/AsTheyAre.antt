@@ -1,4 +1,5 @@
--- Where a run has written nothing, its buffers are as they were: they hold the state that they stand for, whether the run goes on or stops there.
+-- Where a run has written nothing, its buffers are as they were: they hold the state that they
+-- stand for, whether the run goes on or stops there.
 -- Assumes nothing.
 use Prim.Native.Nat.{ℕ}
 use mathlib.Core.Path.{_≡_, sym}

@@ -1,5 +1,6 @@
--- What the search call answers and leaves: after a refusal the buffers are as they were, and else a fresh run over all candidates, from the first on,
--- gives the answer and the words. There are fewer than 2 to the power 32 candidates, so every count fits.
+-- What the search call answers and leaves: after a refusal the buffers are as they were, and else a
+-- fresh run over all candidates, from the first on, gives the answer and the words. There are fewer
+-- than 2 to the power 32 candidates, so every count fits.
 -- Assumes nothing.
 use Prim.Native.Nat.{ℕ, _≤_}
 use native.Mathlib.Omega.{arith}

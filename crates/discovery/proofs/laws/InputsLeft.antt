@@ -1,5 +1,6 @@
--- The loop over input sets: the candidates still to come are those with the outputs o and the input sets from the one at hand on. A turn takes the
--- candidate at hand, and where that is pruned below also its descendants, which stand directly after it; none of the others descends from it.
+-- The loop over input sets: the candidates still to come are those with the outputs o and the input
+-- sets from the one at hand on. A turn takes the candidate at hand, and where that is pruned below
+-- also its descendants, which stand directly after it; none of the others descends from it.
 -- Assumes nothing.
 use Prim.Native.Nat.{ℕ, _+_, _≤_, _<_, _^_}
 use native.Mathlib.Omega.{arith}

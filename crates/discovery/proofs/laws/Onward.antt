@@ -1,6 +1,7 @@
--- How a run in memory is carried on, part by part. `Reached` says that what is still to come, from the counts and buffers as they are now, ends as the
--- whole run from the counts and buffers at the start. It holds at the start. A function that takes the front of what is to come, and leaves what its
--- progress says, leads to the rest, or, where it stopped, to the end of the whole run.
+-- How a run in memory is carried on, part by part. `Reached` says that what is still to come, from
+-- the counts and buffers as they are now, ends as the whole run from the counts and buffers at the
+-- start. It holds at the start. A function that takes the front of what is to come, and leaves what
+-- its progress says, leads to the rest, or, where it stopped, to the end of the whole run.
 -- Assumes nothing.
 use Prim.Native.Nat.{ℕ, _+_, _≤_}
 use native.Mathlib.Omega.{arith}

@@ -1,6 +1,7 @@
--- The loop over output sets: the candidates still to come are those with the output set at hand and the input sets from the one at hand on, and those
--- with the output sets after it. A turn takes the first of these rows. What it prunes has the row's outputs, so no candidate of another row descends
--- from it.
+-- The loop over output sets: the candidates still to come are those with the output set at hand and
+-- the input sets from the one at hand on, and those with the output sets after it. A turn takes the
+-- first of these rows. What it prunes has the row's outputs, so no candidate of another row
+-- descends from it.
 -- Assumes nothing.
 use Prim.Native.Nat.{ℕ, _+_, _≤_, _<_, _^_}
 use native.Mathlib.Omega.{arith}

@@ -1,5 +1,6 @@
--- What a run has pruned matters only to the candidates still to come: entries below which none of them stands can be put aside, and the run does the
--- same without them. So a function that carries a run on need not be told what was pruned before. Candidates that are pruned change nothing.
+-- What a run has pruned matters only to the candidates still to come: entries below which none of
+-- them stands can be put aside, and the run does the same without them. So a function that carries
+-- a run on need not be told what was pruned before. Candidates that are pruned change nothing.
 -- Assumes nothing.
 use mathlib.Core.Path.{_≡_, refl, ap, _∙_}
 use mathlib.Core.Bool.{Bool, true, false, cond, or-false}

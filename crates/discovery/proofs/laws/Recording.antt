@@ -1,6 +1,7 @@
--- What follows the replay of a candidate, in memory: a fitting one is stored after the found words, where there is room, and else stops the run; the
--- word of another one is stored after the rejected words, where there is room. The candidate was not ruled before, so it is pruned below exactly
--- if its own word was stored and rules it overfed.
+-- What follows the replay of a candidate, in memory: a fitting one is stored after the found words,
+-- where there is room, and else stops the run; the word of another one is stored after the rejected
+-- words, where there is room. The candidate was not ruled before, so it is pruned below exactly if
+-- its own word was stored and rules it overfed.
 -- Assumes nothing.
 use Prim.Native.Nat.{ℕ, _+_, _*_, _≤_, _<_}
 use native.Mathlib.Omega.{arith}
@@ -140,7 +141,8 @@ module _ (c : Place) (budget : ℕ) {run : Run} {rejected found : List ℕ} (sta
         go Overfed h = refl
         go Both h = refl
 
-    -- the state with the candidate's word, and with the candidate among the pruned where its word prunes
+    -- the state with the candidate's word, and with the candidate among the pruned where its word
+    -- prunes
     abbrev stored : State
     stored = withRejected (rejectedWord c v) state
 

@@ -1,5 +1,7 @@
--- A candidate that is not pruned, in memory: one that a word rules is counted as visited, and pruned below where the ruling is overfed; one that none
--- rules stops the run where the budget is spent, and else is counted as visited and replayed, which leaves the rest to what follows a replay.
+-- A candidate that is not pruned, in memory: one that a word rules is counted as visited, and
+-- pruned below where the ruling is overfed; one that none rules stops the run where the budget is
+-- spent, and else is counted as visited and replayed, which leaves the rest to what follows a
+-- replay.
 -- Assumes nothing.
 use Prim.Native.Nat.{ℕ, _+_, _≤_, _<_}
 use mathlib.Core.Path.{_≡_, refl, _∙_}

@@ -1,7 +1,9 @@
--- One run's cache and pruned candidates cover those of another: every ruling of the other's cache is one of its own, and what is pruned in the
--- other is pruned in it. It stays so where the covering run gets a word more or prunes more; where both go on from a candidate, since the cache that
--- rules more prunes it too; and where the other alone goes on from a candidate that the covering run prunes, since descendants of that candidate are
--- descendants of the ancestor for which it is pruned.
+-- One run's cache and pruned candidates cover those of another: every ruling of the other's cache
+-- is one of its own, and what is pruned in the other is pruned in it. It stays so where the
+-- covering run gets a word more or prunes more; where both go on from a candidate, since the cache
+-- that rules more prunes it too; and where the other alone goes on from a candidate that the
+-- covering run prunes, since descendants of that candidate are descendants of the ancestor for
+-- which it is pruned.
 -- Assumes nothing.
 use Prim.Native.Nat.{ℕ}
 use mathlib.Core.Path.{_≡_}

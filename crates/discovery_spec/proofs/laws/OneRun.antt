@@ -1,5 +1,6 @@
--- What holds of the words that a run finds. While it goes on, they and those of the fitting candidates that remain are those of all fitting
--- candidates, since no fitting candidate is ruled or pruned; so a run that completes found all of them, and one that stopped a beginning. And the
+-- What holds of the words that a run finds. While it goes on, they and those of the fitting
+-- candidates that remain are those of all fitting candidates, since no fitting candidate is ruled
+-- or pruned; so a run that completes found all of them, and one that stopped a beginning. And the
 -- words found only grow.
 -- Assumes nothing.
 use Prim.Native.Nat.{ℕ, _<_}
@@ -53,8 +54,8 @@ module _ (verdict : Place → Verdict) (room : Capacity) where
   step-grows (going s) c = outcome-grows c s (step-outcome verdict room c s)
   step-grows (stopped end s) c = begins-refl (s .found)
 
--- with the fitting ones among the remaining candidates a run that goes on has these words; one that stopped has a beginning of them, and its end is
--- above 0
+-- with the fitting ones among the remaining candidates a run that goes on has these words; one that
+-- stopped has a beginning of them, and its end is above 0
 abbrev Accounted : (Place → Verdict) → List ℕ → List Place → Progress → Type 0
 Accounted verdict total cs (going s) = s .found ++ map word (fittingAmong verdict cs) ≡ total
 Accounted verdict total cs (stopped end s) = (0 < end) × Begins (s .found) total

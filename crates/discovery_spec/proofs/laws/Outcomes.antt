@@ -1,5 +1,6 @@
--- What one candidate in its turn makes of a run that goes on, case by case, with the reason for each: the definitions of the search, read from
--- their ends. The cases are all there are, and each of them is what the step then answers.
+-- What one candidate in its turn makes of a run that goes on, case by case, with the reason for
+-- each: the definitions of the search, read from their ends. The cases are all there are, and each
+-- of them is what the step then answers.
 -- Assumes nothing.
 use Prim.Native.Nat.{ℕ, _≤_, _<_}
 use mathlib.Core.Path.{_≡_, refl, _∙_}
@@ -37,8 +38,8 @@ onward c s =
 abbrev pub tried : State → State
 tried s = replayedOnce (visited s)
 
--- what comes of a candidate that is to be replayed: the budget is spent, it fits and finds the list full or not, or it does not fit and finds the
--- cache full or not
+-- what comes of a candidate that is to be replayed: the budget is spent, it fits and finds the list
+-- full or not, or it does not fit and finds the cache full or not
 pub data ReplayOutcome (verdict : Place → Verdict) (room : Capacity) (c : Place) (s : State) : Progress → Type 0 where
   spent : room .budget ≤ s .replays → ReplayOutcome verdict room c s (stopped 1 s)
   list-full : s .replays < room .budget → isFitting (verdict c) ≡ true → room .found ≤ length (s .found)
@@ -50,7 +51,8 @@ pub data ReplayOutcome (verdict : Place → Verdict) (room : Capacity) (c : Plac
   cached : s .replays < room .budget → isFitting (verdict c) ≡ false → length (s .rejected) < room .rejected
       → ReplayOutcome verdict room c s (going (onward c (withRejected (rejectedWord c (verdict c)) (tried s))))
 
--- what comes of a candidate: it is pruned, it is visited as one that the cache rules, or it is to be replayed
+-- what comes of a candidate: it is pruned, it is visited as one that the cache rules, or it is to
+-- be replayed
 pub data Outcome (verdict : Place → Verdict) (room : Capacity) (c : Place) (s : State) : Progress → Type 0 where
   passed : isPruned s c ≡ true → Outcome verdict room c s (going s)
   known : isPruned s c ≡ false → ruled (s .rejected) c ≡ true → Outcome verdict room c s (going (onward c (visited s)))

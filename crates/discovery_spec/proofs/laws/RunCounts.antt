@@ -1,5 +1,6 @@
--- What holds of the counts of a run: a candidate counts as one visit and one replay at most, and a replay as a visit. So with a budget for every
--- candidate and room for every fitting one nothing stops it.
+-- What holds of the counts of a run: a candidate counts as one visit and one replay at most, and a
+-- replay as a visit. So with a budget for every candidate and room for every fitting one nothing
+-- stops it.
 -- Assumes nothing.
 use Prim.Native.Nat.{ℕ, suc, _+_, _≤_}
 use native.Mathlib.Omega.{arith}

@@ -1,5 +1,6 @@
--- What every candidate does to a run, and so every list of candidates: words are only added, a candidate counts as one visit at most, a run that stops
--- does so with an end other than 0, and at most the candidate itself is added to the pruned.
+-- What every candidate does to a run, and so every list of candidates: words are only added, a
+-- candidate counts as one visit at most, a run that stops does so with an end other than 0, and at
+-- most the candidate itself is added to the pruned.
 -- Assumes nothing.
 use Prim.Native.Nat.{ℕ, _+_, _≤_, _<_}
 use native.Mathlib.Omega.{arith}

@@ -1,8 +1,10 @@
--- Two runs over the same candidates, of which the second has at least the room and the budget of the first. Until the first cache is full their
--- states are the same. From then on the second is ahead: what it rules or prunes without a replay does not fit, so where the first replays it the word
--- is dropped, and nothing is pruned by it. So both find the same, and the second needs no more replays and visits, as long as the first goes on; when
--- the first stops, the second has found as much. It is not so that the second cache holds what the first would take with more room: a place that is
--- underfed and overfed may be ruled underfed by the larger cache and never get into it.
+-- Two runs over the same candidates, of which the second has at least the room and the budget of
+-- the first. Until the first cache is full their states are the same. From then on the second is
+-- ahead: what it rules or prunes without a replay does not fit, so where the first replays it the
+-- word is dropped, and nothing is pruned by it. So both find the same, and the second needs no more
+-- replays and visits, as long as the first goes on; when the first stops, the second has found as
+-- much. It is not so that the second cache holds what the first would take with more room: a place
+-- that is underfed and overfed may be ruled underfed by the larger cache and never get into it.
 -- Assumes nothing.
 use Prim.Native.Nat.{ℕ, _≤_, _<_}
 use native.Mathlib.Nat.{le-refl}

@@ -1,5 +1,6 @@
--- `event_log::check_lines` meets its contract. The loop's invariant: the pass from where it stands answers what the whole text is answered with,
--- and the counts are small enough to grow. The measure is what is left of the text.
+-- `event_log::check_lines` meets its contract. The loop's invariant: the pass from where it stands
+-- answers what the whole text is answered with, and the counts are small enough to grow. The
+-- measure is what is left of the text.
 -- Assumes nothing.
 use Prim.Native.Nat.{_*_, _-_, _^_, _≤_}
 use mathlib.Core.Path.{_≡_, sym, _∙_}

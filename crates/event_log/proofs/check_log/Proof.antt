@@ -1,4 +1,5 @@
--- `event_log::check_log` meets its contract: the check of the bound comes first, and then the text decides.
+-- `event_log::check_log` meets its contract: the check of the bound comes first, and then the text
+-- decides.
 -- Assumes nothing.
 use mathlib.Core.Path.{sym, _∙_}
 use borrow.Author.Needs.{needs}

@@ -1,5 +1,6 @@
--- A text that goes on with a frame, seen from the index where the frame begins: its count, its digits, its end, and what stands after it.
--- Each part of a written frame has its length, so each part is the text's at an index.
+-- A text that goes on with a frame, seen from the index where the frame begins: its count, its
+-- digits, its end, and what stands after it. Each part of a written frame has its length, so each
+-- part is the text's at an index.
 -- Assumes nothing.
 use Prim.Native.Nat.{ℕ, _+_, _-_, _*_, _^_, _<_}
 use native.Mathlib.Omega.{arith}

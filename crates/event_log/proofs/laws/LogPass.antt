@@ -1,6 +1,7 @@
--- Checking a text's lines in one pass. Where a pass stands at some line with so many cases counted, the lines that are left decide: the first
--- is refused, or the pass goes on at the line after it; with no line left, what was counted is the answer. Where the checks before those of
--- the lines pass, the lines alone decide what checking the log answers.
+-- Checking a text's lines in one pass. Where a pass stands at some line with so many cases counted,
+-- the lines that are left decide: the first is refused, or the pass goes on at the line after it;
+-- with no line left, what was counted is the answer. Where the checks before those of the lines
+-- pass, the lines alone decide what checking the log answers.
 -- Assumes nothing.
 use Prim.Native.Nat.{ℕ, suc, _+_, _≤_, _<_, _^_}
 use mathlib.Core.Path.{_≡_, refl}
@@ -30,7 +31,8 @@ use Rattle.limits.proofs.laws.FirstOf.{only-one}
 use Rattle.event_log_spec.proofs.laws.FrameLines.{no-fault-framed}
 use Rattle.event_log_spec.proofs.laws.LogChecks.{bound-passes, lines-decide}
 
--- checking a log under a bound in its range is checking its text, and checking a text of some byte is checking its lines
+-- checking a log under a bound in its range is checking its text, and checking a text of some byte
+-- is checking its lines
 pub text-decides : (A : ℕ) (text : List ℕ) → boundInRange A ≡ true → checked A text ≡ textChecked A text
 unfolding checked textChecked
 text-decides A text in-range = rw (bound-passes A .1 in-range)

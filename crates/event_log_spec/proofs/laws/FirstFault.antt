@@ -1,5 +1,6 @@
--- The lines of a text give a refusal exactly when some line has a fault, and it is the first fault of the first such line, which it names.
--- The lines are tried from the front; `LineFaults` has the order of the faults of one line.
+-- The lines of a text give a refusal exactly when some line has a fault, and it is the first fault
+-- of the first such line, which it names. The lines are tried from the front; `LineFaults` has the
+-- order of the faults of one line.
 -- Assumes nothing.
 use Prim.Native.Nat.{ℕ, zero, suc, _+_, _≤_, _<_}
 use native.Mathlib.Nat.{zero-add, add-zero}

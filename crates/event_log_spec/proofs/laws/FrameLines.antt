@@ -1,5 +1,6 @@
--- One line: it has no fault exactly when it is the written form of a frame that a log may have, and then that frame is the one read from
--- it. The count and the activities are read back digit by digit, and the checks of the trace are those of the written form.
+-- One line: it has no fault exactly when it is the written form of a frame that a log may have, and
+-- then that frame is the one read from it. The count and the activities are read back digit by
+-- digit, and the checks of the trace are those of the written form.
 -- Assumes nothing.
 use Prim.Native.Nat.{ℕ, _+_, _-_, _*_, _/_, _%_, _^_, _≤_, _<_}
 use native.Mathlib.Omega.{arith}

@@ -1,5 +1,6 @@
--- The first fault of a line, in the order of checks: for each answer, the condition that holds and those before it that do not. The checks
--- are tried one by one, and the first that gives a refusal decides.
+-- The first fault of a line, in the order of checks: for each answer, the condition that holds and
+-- those before it that do not. The checks are tried one by one, and the first that gives a refusal
+-- decides.
 -- Assumes nothing.
 use Prim.Native.Nat.{ℕ, _≤_, _<_}
 use mathlib.Core.Path.{_≡_, refl, subst, _∙_}

@@ -1,5 +1,5 @@
--- How a text falls into lines, from its front: what its first byte does to its first line, and that the other lines are those of the text
--- after it. Each follows from the one equation of `lines`.
+-- How a text falls into lines, from its front: what its first byte does to its first line, and that
+-- the other lines are those of the text after it. Each follows from the one equation of `lines`.
 -- Assumes nothing.
 use Prim.Native.Nat.{ℕ, suc, _≤_}
 use mathlib.Core.Path.{_≡_, refl}
@@ -34,7 +34,8 @@ pub first-byte : (byte : ℕ) (text : List ℕ) → (byte ≡ lineFeed → ⊥) 
 unfolding firstLine lines
 first-byte byte text other = rw (ne-eqb byte lineFeed other) (put-first byte (lines text))
 
--- a text with a byte has a first line, and its other lines are those of the text after that line's line feed
+-- a text with a byte has a first line, and its other lines are those of the text after that line's
+-- line feed
 pub lines-step : (text : List ℕ) → 1 ≤ length text → lines text ≡ firstLine text ∷ lines (drop (suc (length (firstLine text .bytes))) text)
 unfolding lines firstLine
 lines-step [] some = absurd (omega arith)

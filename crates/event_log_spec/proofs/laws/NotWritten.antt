@@ -1,5 +1,5 @@
--- What the written form of a log leaves out, a frame or a log for each of its conditions, so that none of them is empty. That it leaves out
--- exactly what checking refuses is shown in Written.
+-- What the written form of a log leaves out, a frame or a log for each of its conditions, so that
+-- none of them is empty. That it leaves out exactly what checking refuses is shown in Written.
 -- Assumes nothing.
 use Prim.Native.Nat.{ℕ, _^_}
 use native.Mathlib.Omega.{arith}

@@ -1,5 +1,5 @@
--- Two digits for each activity: reading them back gives the activities, and writing what an even number of digits stands for gives the
--- digits. Each goes pair by pair, by the laws of one number.
+-- Two digits for each activity: reading them back gives the activities, and writing what an even
+-- number of digits stands for gives the digits. Each goes pair by pair, by the laws of one number.
 -- Assumes nothing.
 use Prim.Native.Nat.{ℕ, _*_, _/_, _%_, _<_}
 use native.Mathlib.Omega.{arith}

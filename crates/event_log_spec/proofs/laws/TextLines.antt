@@ -1,5 +1,6 @@
--- A text and its lines: the lines one after the other, each with the line feed that ends it, are the text; digits, then a line feed, are
--- the first line of the text that begins with them; so the lines of frames written one after the other are the frames' lines.
+-- A text and its lines: the lines one after the other, each with the line feed that ends it, are
+-- the text; digits, then a line feed, are the first line of the text that begins with them; so the
+-- lines of frames written one after the other are the frames' lines.
 -- Assumes nothing.
 use Prim.Native.Nat.{ℕ}
 use mathlib.Core.Path.{_≡_, refl, sym, ap, ap₂, _∙_}

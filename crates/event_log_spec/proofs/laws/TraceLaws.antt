@@ -1,5 +1,6 @@
--- What checking asks of a trace, in the words of the written form: no code of A or more, and a behaviour. A trace of two or more events is
--- its first, those between and its last, and the checks look at just these three.
+-- What checking asks of a trace, in the words of the written form: no code of A or more, and a
+-- behaviour. A trace of two or more events is its first, those between and its last, and the checks
+-- look at just these three.
 -- Assumes nothing.
 use Prim.Native.Nat.{ℕ, suc, _-_, _≤_, _<_}
 use native.Mathlib.Omega.{arith}

@@ -1,4 +1,5 @@
--- A log under an activity bound is a log under every larger one: only the codes of its activities are held to the bound.
+-- A log under an activity bound is a log under every larger one: only the codes of its activities
+-- are held to the bound.
 -- Assumes nothing.
 use Prim.Native.Nat.{ℕ, _≤_}
 use native.Mathlib.Omega.{arith}

@@ -1,5 +1,5 @@
--- The words of a list that pass a test, written into a buffer one after the other: one that does not pass changes nothing, and one that does is stored
--- after those so far.
+-- The words of a list that pass a test, written into a buffer one after the other: one that does
+-- not pass changes nothing, and one that does is stored after those so far.
 -- Assumes nothing.
 use Prim.Native.Nat.{ℕ, _+_, _≤_, _<_}
 use native.Mathlib.Numerals.{add-one}

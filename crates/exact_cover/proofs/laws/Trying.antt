@@ -1,5 +1,6 @@
--- Trying the words that cover one activity, one after the other. A cover begins with one of them, so where each word before an index fails and the
--- index is the end, there is no cover; where one succeeds, it and the cover of the rest make one.
+-- Trying the words that cover one activity, one after the other. A cover begins with one of them,
+-- so where each word before an index fails and the index is the end, there is no cover; where one
+-- succeeds, it and the cover of the rest make one.
 -- Assumes nothing.
 use Prim.Native.Nat.{ℕ, _+_, _-_, _/_, _%_, _≤_, _<_}
 use native.Mathlib.Numerals.{add-one}

@@ -1,4 +1,5 @@
--- Case splits on a Boolean, when two are the same, the parts of a disjunction that fails or holds, what a negated test decides, and what cannot be.
+-- Case splits on a Boolean, when two are the same, the parts of a disjunction that fails or holds,
+-- what a negated test decides, and what cannot be.
 -- Assumes nothing.
 use Prim.Native.Nat.{ℕ}
 use native.Mathlib.Omega.{arith}

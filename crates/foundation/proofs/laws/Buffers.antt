@@ -1,5 +1,6 @@
--- Words written from the front of a buffer: its front alone changes nothing, a word stored after the front makes the front longer by that word, the
--- words can be taken back, and writing more words over fewer is writing the more.
+-- Words written from the front of a buffer: its front alone changes nothing, a word stored after
+-- the front makes the front longer by that word, the words can be taken back, and writing more
+-- words over fewer is writing the more.
 -- Assumes nothing.
 use Prim.Native.Nat.{ℕ, suc, _+_, _-_, _≤_, _<_}
 use native.Mathlib.Omega.{arith}

@@ -1,5 +1,6 @@
--- Sums of integers as differences of natural numbers: what is added to a difference goes to its first number, and what is taken from it to its
--- second; and a sum is no larger than its parts together. Each goes by the signs.
+-- Sums of integers as differences of natural numbers: what is added to a difference goes to its
+-- first number, and what is taken from it to its second; and a sum is no larger than its parts
+-- together. Each goes by the signs.
 -- Assumes nothing.
 use Prim.Native.Nat.{ℕ, zero, suc, _+_, _-_, _≤_}
 use native.Mathlib.Nat.{add-zero}

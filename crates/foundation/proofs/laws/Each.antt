@@ -1,5 +1,5 @@
--- Laws of what holds of each element of a list, of tests of each, and of the numbers below n: something holds of each of them exactly if it holds of every
--- number that is below n.
+-- Laws of what holds of each element of a list, of tests of each, and of the numbers below n:
+-- something holds of each of them exactly if it holds of every number that is below n.
 -- Assumes nothing.
 use Prim.Native.Nat.{ℕ, zero, suc, _<_}
 use native.Mathlib.Omega.{arith}

@@ -1,5 +1,5 @@
--- Laws of the tests of order on integers, and of the difference of two natural numbers under them: each is a law of the natural numbers,
--- sign by sign.
+-- Laws of the tests of order on integers, and of the difference of two natural numbers under them:
+-- each is a law of the natural numbers, sign by sign.
 -- Assumes nothing.
 use Prim.Native.Nat.{ℕ, suc, _+_, _-_, _≤_}
 use native.Mathlib.Nat.{le-refl}
@@ -56,7 +56,8 @@ ltZ-leZ-trans (negsuc a) b (pos c) h k = refl
 ltZ-leZ-trans (negsuc a) (pos b) (negsuc c) h k = absurd (false≢true k)
 ltZ-leZ-trans (negsuc a) (negsuc b) (negsuc c) h k = lt-ltb c a (omega (arith, leb-true, ltb-true))
 
--- a - b is at most c - d where a + d is at most c + b: so a difference grows with its first number and shrinks with its second
+-- a - b is at most c - d where a + d is at most c + b: so a difference grows with its first number
+-- and shrinks with its second
 pub difference-le : (a b c d : ℕ) → a + d ≤ c + b → leZ (subℕ a b) (subℕ c d) ≡ true
 difference-le a b c d h = go (ltb a b) (ltb c d) refl refl
   where

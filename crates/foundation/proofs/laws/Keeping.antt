@@ -1,4 +1,5 @@
--- Keeping twice is keeping what passes both tests, and a test that holds wherever another does keeps no fewer elements.
+-- Keeping twice is keeping what passes both tests, and a test that holds wherever another does
+-- keeps no fewer elements.
 -- Assumes nothing.
 use Prim.Native.Nat.{_≤_}
 use native.Mathlib.Nat.{le-refl}

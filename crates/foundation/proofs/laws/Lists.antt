@@ -15,7 +15,8 @@ module _ {A : Type 0} {P : A → Type 0} {x : A} {xs : List A} where
   pub each-tail : Each P (x ∷ xs) → Each P xs
   each-tail (each-cons here later) = later
 
--- of a list whose every two elements are related: the first two are, and so is the list without its first, or without its second, element
+-- of a list whose every two elements are related: the first two are, and so is the list without its
+-- first, or without its second, element
 module _ {A : Type 0} (r : A → A → Bool) where
   pub pairwise-tail : (x : A) (xs : List A) → pairwise r (x ∷ xs) ≡ true → pairwise r xs ≡ true
   pairwise-tail x xs e = and-eq-true-iff (all (r x) xs) (pairwise r xs) .0 e .1
@@ -48,7 +49,8 @@ keep-append p (x ∷ xs) ys = go (p x) (keep-append p xs ys)
     go true e = ap (_∷_ x) e
     go false e = e
 
--- of the images of a list, those that pass are the images of the elements that pass, where the tests agree
+-- of the images of a list, those that pass are the images of the elements that pass, where the
+-- tests agree
 module _ {A B : Type 0} (p : B → Bool) (q : A → Bool) (f : A → B) (agree : (x : A) → p (f x) ≡ q x) where
   pub keep-map : (xs : List A) → keep p (map f xs) ≡ map f (keep q xs)
   keep-map [] = refl

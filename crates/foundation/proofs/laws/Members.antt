@@ -1,5 +1,6 @@
--- Laws of what is in a list: what holds of each element holds of a member, and what holds of every member holds of each element; what stands at an
--- index is a member; a member of the kept elements is a member that passes; a member of lists in turn is a member of one of them; members of the
+-- Laws of what is in a list: what holds of each element holds of a member, and what holds of every
+-- member holds of each element; what stands at an index is a member; a member of the kept elements
+-- is a member that passes; a member of lists in turn is a member of one of them; members of the
 -- images are images of members.
 -- Assumes nothing.
 use Prim.Native.Nat.{ℕ, zero, suc, _<_}

@@ -1,5 +1,6 @@
--- Laws of ordered lists, in which each element is related to all that come later: what is left of such a list is ordered, and so are its images and
--- two such lists in turn, where the relation goes with them.
+-- Laws of ordered lists, in which each element is related to all that come later: what is left of
+-- such a list is ordered, and so are its images and two such lists in turn, where the relation goes
+-- with them.
 -- Assumes nothing.
 use mathlib.Core.Path.{_≡_, sym, subst}
 use mathlib.Core.Bool.{Bool}

@@ -1,5 +1,6 @@
--- Laws of the choices of elements of a list. They are those without its first element and those with it, and there are no others; so what is
--- chosen are members, and the images of a choice are a choice of the images.
+-- Laws of the choices of elements of a list. They are those without its first element and those
+-- with it, and there are no others; so what is chosen are members, and the images of a choice are a
+-- choice of the images.
 -- Assumes nothing.
 use mathlib.Core.Path.{refl, sym, subst}
 use mathlib.Core.Logic.{⊎-elim}
@@ -18,7 +19,8 @@ module _ {A : Type 0} (x : A) (xs : List A) {s : List A} where
   pub sublist-take : List·Memᴰ s (sublists xs) → List·Memᴰ (x ∷ s) (sublists (x ∷ xs))
   sublist-take m = Memᴰ·append-left (sublists xs) (Memᴰ·map (withFirst x) m)
 
--- what holds of no elements, and goes on to a list with one more element both where it is not chosen and where it is, holds of every choice
+-- what holds of no elements, and goes on to a list with one more element both where it is not
+-- chosen and where it is, holds of every choice
 sublist-induction : {A : Type 0} (C : List A → List A → Type 0) → C [] []
     → ((x : A) (xs s : List A) → C xs s → C (x ∷ xs) s × C (x ∷ xs) (x ∷ s)) → (xs : List A) {s : List A} → List·Memᴰ s (sublists xs) → C xs s
 sublist-induction C none more [] m = subst (C []) (sym (List·Memᴰ·eq-of-singleton m)) none

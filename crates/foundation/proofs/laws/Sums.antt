@@ -1,4 +1,5 @@
--- Laws of sums over lists: a sum of sums, sums compared element by element, and what keeping some elements leaves of a sum.
+-- Laws of sums over lists: a sum of sums, sums compared element by element, and what keeping some
+-- elements leaves of a sum.
 -- Assumes nothing.
 use Prim.Native.Nat.{ℕ, _+_, _≤_}
 use native.Mathlib.Nat.{le-refl}

@@ -1,5 +1,6 @@
--- Digits: a byte is a digit exactly when it writes a value below 16, and reading and writing numbers in digits undo each other. The numbers
--- go by the number of digits: the first digit is the quotient by the power of 16 that the others stay below.
+-- Digits: a byte is a digit exactly when it writes a value below 16, and reading and writing
+-- numbers in digits undo each other. The numbers go by the number of digits: the first digit is the
+-- quotient by the power of 16 that the others stay below.
 -- Assumes nothing.
 use Prim.Native.Nat.{ℕ, zero, suc, _+_, _-_, _*_, _/_, _%_, _^_, _≤_, _<_}
 use native.Mathlib.Nat.{add-zero, add-comm, mul-comm, mul-assoc, mul-le-mul-right, pow-suc, one-le-pow}

@@ -1,5 +1,6 @@
--- A number's digits, written one after the other from the back of a slice: each is the remainder by 16 of what is left of the number, which is then
--- divided by 16. Where the front is reached, the slice holds the number's lowest digits, the highest first.
+-- A number's digits, written one after the other from the back of a slice: each is the remainder by
+-- 16 of what is left of the number, which is then divided by 16. Where the front is reached, the
+-- slice holds the number's lowest digits, the highest first.
 -- Assumes nothing.
 use Prim.Native.Nat.{ℕ, suc, _+_, _-_, _/_, _%_, _^_, _≤_, _<_}
 use native.Mathlib.Nat.{div-div-eq-div-mul, div-one, pow-suc}

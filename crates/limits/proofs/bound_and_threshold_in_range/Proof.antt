@@ -1,4 +1,5 @@
--- `limits::bound_and_threshold_in_range` meets its contract: where the bound is in its range the threshold decides, and else the bound does.
+-- `limits::bound_and_threshold_in_range` meets its contract: where the bound is in its range the
+-- threshold decides, and else the bound does.
 -- Assumes nothing.
 use mathlib.Core.Path.{sym, _∙_}
 use borrow.Author.Needs.{needs}

@@ -1,5 +1,5 @@
--- The first check that gives a refusal: there is none exactly when no check gives one, and else it is the first check's or a later one's.
--- Each follows from the equations of `firstOf` and `given`.
+-- The first check that gives a refusal: there is none exactly when no check gives one, and else it
+-- is the first check's or a later one's. Each follows from the equations of `firstOf` and `given`.
 -- Assumes nothing.
 use mathlib.Core.Path.{_≡_, refl, sym, _∙_}
 use mathlib.Core.Bool.{Bool, true, false}

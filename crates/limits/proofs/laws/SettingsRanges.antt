@@ -1,4 +1,5 @@
--- Settings that are in their ranges: what the tests of the four say; and the first of the four that fails decides.
+-- Settings that are in their ranges: what the tests of the four say; and the first of the four that
+-- fails decides.
 -- Assumes nothing.
 use Prim.Native.Nat.{_≤_}
 use mathlib.Core.Path.{_≡_}

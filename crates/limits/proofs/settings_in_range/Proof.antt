@@ -1,4 +1,5 @@
--- `limits::settings_in_range` meets its contract: the first setting that is out of its range decides, or else the threshold does.
+-- `limits::settings_in_range` meets its contract: the first setting that is out of its range
+-- decides, or else the threshold does.
 -- Assumes nothing.
 use mathlib.Core.Path.{sym, _∙_}
 use borrow.Author.Needs.{needs}

@@ -1,4 +1,5 @@
--- `limits::value_of` meets its contract: each arm knows which refusal it has, and returns what that holds.
+-- `limits::value_of` meets its contract: each arm knows which refusal it has, and returns what that
+-- holds.
 -- Assumes nothing.
 use borrow.Author.Needs.{needs}
 use Rattle.limits.specs.Refusals.{value}

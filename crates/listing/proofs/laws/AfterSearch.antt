@@ -1,5 +1,6 @@
--- What follows the answer of the search: a refusal and a run that stopped are handed on, with the further buffer as it was; what a completed run found is
--- reduced into that buffer. The number and the value of the answer are those of the search's refusal or of the reduction's.
+-- What follows the answer of the search: a refusal and a run that stopped are handed on, with the
+-- further buffer as it was; what a completed run found is reduced into that buffer. The number and
+-- the value of the answer are those of the search's refusal or of the reduction's.
 -- Assumes nothing.
 use Prim.Native.Nat.{ℕ, _-_, _≤_}
 use native.Mathlib.Nat.{sub-zero}

@@ -1,4 +1,5 @@
--- `listing::list_places` meets its contract: what the search answers and leaves is handed on, and what a completed run found is reduced.
+-- `listing::list_places` meets its contract: what the search answers and leaves is handed on, and
+-- what a completed run found is reduced.
 -- Assumes nothing.
 use native.Mathlib.Omega.{arith}
 use borrow.Author.Needs.{needs}

@@ -1,5 +1,6 @@
--- A trace read event by event through its phases ends complete exactly when no endpoint of it is misplaced. After the start, what is left must
--- end in the end and have no endpoint before it, by induction on what is left.
+-- A trace read event by event through its phases ends complete exactly when no endpoint of it is
+-- misplaced. After the start, what is left must end in the end and have no endpoint before it, by
+-- induction on what is left.
 -- Assumes nothing.
 use Prim.Native.Nat.{ℕ, suc, _-_}
 use mathlib.Core.Path.{_≡_, refl}

@@ -1,5 +1,6 @@
--- Reading the activities of a line in one pass. `scan` reads on from where a pass stands, pair by pair, and answers what the definitions say of
--- the line that begins there: by induction on the bytes that are left, two at a time.
+-- Reading the activities of a line in one pass. `scan` reads on from where a pass stands, pair by
+-- pair, and answers what the definitions say of the line that begins there: by induction on the
+-- bytes that are left, two at a time.
 -- Assumes nothing.
 use Prim.Native.Nat.{ℕ, suc, _+_, _-_, _%_, _≤_, _<_}
 use mathlib.Core.Path.{_≡_, refl, sym}

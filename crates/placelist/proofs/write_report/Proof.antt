@@ -1,4 +1,5 @@
--- `placelist::write_report` is safe: the bytes that `report_places` answers stand in the buffer, which is as long as it was, so they lie within it.
+-- `placelist::write_report` is safe: the bytes that `report_places` answers stand in the buffer,
+-- which is as long as it was, so they lie within it.
 -- Assumes nothing.
 use Prim.Native.Nat.{ℕ, _≤_}
 use native.Mathlib.Omega.{arith}

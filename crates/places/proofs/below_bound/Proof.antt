@@ -1,4 +1,5 @@
--- `places::below_bound` meets its contract: the law of the shift, below 16; at 16 and more every 16-bit set is below the bound.
+-- `places::below_bound` meets its contract: the law of the shift, below 16; at 16 and more every
+-- 16-bit set is below the bound.
 -- Assumes nothing.
 use borrow.Author.Needs.{needs}
 use borrow.Author.Tests.{le-leb}

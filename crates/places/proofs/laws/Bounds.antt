@@ -1,5 +1,6 @@
--- A set names no code of A or more exactly when nothing is left of it after a shift by A; a 16-bit set names none of 16 or more. A place that has
--- inputs and outputs is under A exactly when both sets are; a place under A is under every wider bound.
+-- A set names no code of A or more exactly when nothing is left of it after a shift by A; a 16-bit
+-- set names none of 16 or more. A place that has inputs and outputs is under A exactly when both
+-- sets are; a place under A is under every wider bound.
 -- Assumes nothing.
 use Prim.Native.Nat.{ℕ, _<_, _≤_, _/_, _^_}
 use mathlib.Core.Path.{_≡_}

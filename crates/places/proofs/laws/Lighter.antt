@@ -1,6 +1,8 @@
--- A set within another has no code more often, since each of its codes is one of the other's, and a code stands in a set once or not at all.
--- Where a place is at least as light as another, each of its sets is within the other's or has it within itself. Every set is within itself, and
--- what is within a set that is within a third is within the third, so the same goes for being at least as light.
+-- A set within another has no code more often, since each of its codes is one of the other's, and a
+-- code stands in a set once or not at all. Where a place is at least as light as another, each of
+-- its sets is within the other's or has it within itself. Every set is within itself, and what is
+-- within a set that is within a third is within the third, so the same goes for being at least as
+-- light.
 -- Assumes nothing.
 use Prim.Native.Nat.{ℕ, _≤_, _<_}
 use native.Mathlib.Omega.{arith}

@@ -1,5 +1,5 @@
--- Refusal 7 of a list of words, found one word after the other: the first word that stands for no place decides, with its index; there is none
--- exactly where each word stands for a place.
+-- Refusal 7 of a list of words, found one word after the other: the first word that stands for no
+-- place decides, with its index; there is none exactly where each word stands for a place.
 -- Assumes nothing.
 use Prim.Native.Nat.{ℕ, suc, _+_, _≤_, _<_}
 use native.Mathlib.Numerals.{add-one}

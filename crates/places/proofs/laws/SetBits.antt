@@ -1,5 +1,6 @@
--- A set by its codes: halving it takes its lowest code away and makes each other code one less, the bits that two sets share are the codes of both,
--- the bits of both together those of either, and two sets with the same codes are equal.
+-- A set by its codes: halving it takes its lowest code away and makes each other code one less, the
+-- bits that two sets share are the codes of both, the bits of both together those of either, and
+-- two sets with the same codes are equal.
 -- Assumes nothing.
 use Prim.Native.Nat.{ℕ, zero, suc, _/_, _%_, _^_, _<_, min, max}
 use native.Mathlib.Omega.{arith}

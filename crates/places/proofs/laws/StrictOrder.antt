@@ -1,4 +1,5 @@
--- The stated order of sets, and that of places, is strict: nothing comes before itself, and the order is transitive.
+-- The stated order of sets, and that of places, is strict: nothing comes before itself, and the
+-- order is transitive.
 -- Assumes nothing.
 use Prim.Native.Nat.{ℕ}
 use native.Mathlib.Nat.{lt-trans}

@@ -1,4 +1,5 @@
--- `places::place_under` meets its contract: at each return, the tests that led there decide what the definition says.
+-- `places::place_under` meets its contract: at each return, the tests that led there decide what
+-- the definition says.
 -- Assumes nothing.
 use mathlib.Core.Path.{sym, _∙_}
 use borrow.Author.Needs.{needs}

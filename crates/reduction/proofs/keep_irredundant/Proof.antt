@@ -1,5 +1,5 @@
--- `reduction::keep_irredundant` meets its contract. The loop's invariant: the words before the index that are kept stand in front of the buffer. The
--- measure is what is left of the words.
+-- `reduction::keep_irredundant` meets its contract. The loop's invariant: the words before the
+-- index that are kept stand in front of the buffer. The measure is what is left of the words.
 -- Assumes nothing.
 use Prim.Native.Nat.{ℕ, _-_, _<_}
 use native.Mathlib.Omega.{arith}

@@ -1,5 +1,5 @@
--- `reduction::reduce` meets its contract: a word that stands for no place is refused, then a buffer that is too short, and else what is kept is
--- written.
+-- `reduction::reduce` meets its contract: a word that stands for no place is refused, then a buffer
+-- that is too short, and else what is kept is written.
 -- Assumes nothing.
 use Prim.Native.Nat.{ℕ}
 use mathlib.Core.Path.{_≡_, refl, sym, ap, _∙_}

@@ -1,5 +1,6 @@
--- Where all words that can be the next part have too few inputs for their outputs, or all too many, there is no cover. The parts of a cover have the
--- inputs and the outputs of the whole between them, so they cannot all be on the same side of it.
+-- Where all words that can be the next part have too few inputs for their outputs, or all too many,
+-- there is no cover. The parts of a cover have the inputs and the outputs of the whole between
+-- them, so they cannot all be on the same side of it.
 -- Assumes nothing.
 use Prim.Native.Nat.{ℕ, _+_, _-_, _*_, _/_, _%_, _≤_, _<_}
 use native.Mathlib.Nat.{add-mul, mul-add, mul-comm, zero-mul}
@@ -32,7 +33,8 @@ usable-here whole left l w small u =
     let own = usable-parts whole l w u in
     parts-usable whole left w (part-trans w l left (own .0) small) (own .1)
 
--- two counts that add up over parts, and words of which each that can be the next part has less of the first for its second than what is left
+-- two counts that add up over parts, and words of which each that can be the next part has less of
+-- the first for its second than what is left
 module _ (f g : ℕ → ℕ) (f-parts : (w l : ℕ) → Part w l → f w + f (l - w) ≡ f l) (g-parts : (w l : ℕ) → Part w l → g w + g (l - w) ≡ g l)
     (f-none : f 0 ≡ 0) (words : List ℕ) (whole left : ℕ)
     (all : (w : ℕ) → List·Memᴰ w words → usable whole left w ≡ true → f w * g left < f left * g w) where

@@ -1,5 +1,7 @@
--- A cover is a partition of what is left into words of the list, none of which is the whole. It takes no word twice, since what a word with a bit
--- leaves has none of its bits, and its words can be taken in any order; so they can be taken in the order of the list, as a choice of its elements.
+-- A cover is a partition of what is left into words of the list, none of which is the whole. It
+-- takes no word twice, since what a word with a bit leaves has none of its bits, and its words can
+-- be taken in any order; so they can be taken in the order of the list, as a choice of its
+-- elements.
 -- Assumes nothing.
 use Prim.Native.Nat.{ℕ, _-_, _<_}
 use native.Mathlib.Omega.{arith}

@@ -1,6 +1,8 @@
--- Laws of an exact cover, for the search that looks for one. Every activity that is left is covered by some part, and the parts can be taken away
--- in any order, so it is enough to try the words that cover one activity. Where no word does, there is no cover; and since every word has inputs
--- and outputs, there is none where only inputs or only outputs are left. Taking a word away leaves fewer activities.
+-- Laws of an exact cover, for the search that looks for one. Every activity that is left is covered
+-- by some part, and the parts can be taken away in any order, so it is enough to try the words that
+-- cover one activity. Where no word does, there is no cover; and since every word has inputs and
+-- outputs, there is none where only inputs or only outputs are left. Taking a word away leaves
+-- fewer activities.
 -- Assumes nothing.
 use Prim.Native.Nat.{ℕ, _-_, _/_, _%_, _^_, _≤_, _<_}
 use native.Mathlib.Omega.{arith}

@@ -1,5 +1,6 @@
--- What the sentence form of a union leaves out. A place alone in its list is no union: two parts would both be that place, and it overlaps
--- itself. And 3/5 is no union of 1/2 and 2/4: no part can be taken twice, and the two together are 3/6.
+-- What the sentence form of a union leaves out. A place alone in its list is no union: two parts
+-- would both be that place, and it overlaps itself. And 3/5 is no union of 1/2 and 2/4: no part can
+-- be taken twice, and the two together are 3/6.
 -- Assumes nothing.
 use Prim.Native.Nat.{ℕ, _≤_}
 use native.Mathlib.Omega.{arith}
@@ -52,7 +53,8 @@ one-of q at = ⊎-elim inl (λ later. inr (List·Memᴰ·eq-of-singleton later))
 other-one-of : (q : Place) → Listed q → (q ≡ place 2 4) ⊎ (q ≡ place 1 2)
 other-one-of q at = ⊎-elim inr inl (one-of q at)
 
--- once both places x and y of the list are taken, a third part would be one of them again, and without one their union is 3/6
+-- once both places x and y of the list are taken, a third part would be one of them again, and
+-- without one their union is 3/6
 module _ (x y : Place) (x-overlaps : nonOverlapping x x ≡ false) (y-overlaps : nonOverlapping y y ≡ false)
     (together : joinAll (x ∷ y ∷ []) ≡ place 3 6) (one : (q : Place) → Listed q → (q ≡ x) ⊎ (q ≡ y)) where
   both : (a b : Place) (rest : List Place) → a ≡ x → b ≡ y → Each Listed rest → pairwise nonOverlapping (a ∷ b ∷ rest) ≡ true

@@ -1,6 +1,7 @@
--- Words that make up a whole: taken away from it one after the other, they leave nothing. Their places then are non-overlapping, and the place of
--- the whole is their union; and the words of non-overlapping places make up some whole. Where each of the words has a bit, they are two or more
--- exactly if none of them is the whole.
+-- Words that make up a whole: taken away from it one after the other, they leave nothing. Their
+-- places then are non-overlapping, and the place of the whole is their union; and the words of
+-- non-overlapping places make up some whole. Where each of the words has a bit, they are two or
+-- more exactly if none of them is the whole.
 -- Assumes nothing.
 use Prim.Native.Nat.{ℕ, _+_, _-_, _^_, _≤_, _<_}
 use native.Mathlib.Omega.{arith}

@@ -1,6 +1,8 @@
--- Numbers as sets of bits. A word is a part of another where their common bits are all its own. What is left when a part is taken away has the
--- other bits, so two parts that share no bit can be taken away in either order. The bits of a part from bit k on, and those below k, are a part
--- of those of the whole, so the rest can be had bit by bit, and what has all bits of a word has it as a part.
+-- Numbers as sets of bits. A word is a part of another where their common bits are all its own.
+-- What is left when a part is taken away has the other bits, so two parts that share no bit can be
+-- taken away in either order. The bits of a part from bit k on, and those below k, are a part of
+-- those of the whole, so the rest can be had bit by bit, and what has all bits of a word has it as
+-- a part.
 -- Assumes nothing.
 use Prim.Native.Nat.{ℕ, _+_, _-_, _*_, _/_, _%_, _^_, _≤_, _<_, min}
 use native.Mathlib.Omega.{arith}
@@ -43,7 +45,8 @@ module _ (w l k : ℕ) (e : Part w l) where
       rest : l - w ≡ above * 2 ^ k + (l % 2 ^ k - w % 2 ^ k)
       rest = omega (arith, split l k, split w k, highs, low-le)
 
--- the halves of a part are parts of the halves, and what they leave are the halves of what the part leaves
+-- the halves of a part are parts of the halves, and what they leave are the halves of what the part
+-- leaves
 module _ (w l : ℕ) (e : Part w l) where
   pub part-lower : Part (w % 65536) (l % 65536)
   part-lower = sym (and-mod w l 16) ∙ ap (λ (x : ℕ). x % 65536) e

@@ -1,5 +1,6 @@
--- Places and their words. Two sets are disjoint exactly if they share no bit, and their union then is their sum, since a set is the sum of the
--- powers of 2 for its codes. So two places are non-overlapping exactly if their words share no bit, and then the sum is the word of their union.
+-- Places and their words. Two sets are disjoint exactly if they share no bit, and their union then
+-- is their sum, since a set is the sum of the powers of 2 for its codes. So two places are
+-- non-overlapping exactly if their words share no bit, and then the sum is the word of their union.
 -- Assumes nothing.
 use Prim.Native.Nat.{ℕ, zero, suc, _+_, _*_, _/_, _%_, _^_, _<_, min}
 use native.Mathlib.Omega.{arith}

@@ -1,5 +1,5 @@
--- Repeated words fare alike: whether a word is dropped depends on the word and on the list, and not on where the word stands. So of a word either all
--- copies are kept or none.
+-- Repeated words fare alike: whether a word is dropped depends on the word and on the list, and not
+-- on where the word stands. So of a word either all copies are kept or none.
 -- Assumes nothing.
 use Prim.Native.Nat.{ℕ}
 use mathlib.Core.Path.{_≡_, refl, sym, ap, _∙_}

@@ -1,5 +1,6 @@
--- Words that share no bit: what another word shares with their sum it shares with one of the two, each of them is a part of the sum, and the sum
--- has no more bits than they. A part shares no bit with the rest, so what shares no bit with the whole shares none with part and rest.
+-- Words that share no bit: what another word shares with their sum it shares with one of the two,
+-- each of them is a part of the sum, and the sum has no more bits than they. A part shares no bit
+-- with the rest, so what shares no bit with the whole shares none with part and rest.
 -- Assumes nothing.
 use Prim.Native.Nat.{ℕ, _+_, _-_, _/_, _^_, _<_}
 use native.Mathlib.Omega.{arith}

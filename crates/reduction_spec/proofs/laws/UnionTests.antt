@@ -1,7 +1,9 @@
--- The sentence form of a union, its test and the cover search agree on a list of places. Two parts are non-overlapping exactly if their words share
--- no bit, and then the word of their union is the sum; so the parts of a union, taken away one after the other, leave nothing. Two or more parts
--- are then parts other than the whole, since every part has an activity. A cover takes no word of the list twice, so its parts can be taken in
--- the order of the list, which is a choice that the test tries.
+-- The sentence form of a union, its test and the cover search agree on a list of places. Two parts
+-- are non-overlapping exactly if their words share no bit, and then the word of their union is the
+-- sum; so the parts of a union, taken away one after the other, leave nothing. Two or more parts
+-- are then parts other than the whole, since every part has an activity. A cover takes no word of
+-- the list twice, so its parts can be taken in the order of the list, which is a choice that the
+-- test tries.
 -- Assumes nothing.
 use Prim.Native.Nat.{ℕ, _/_, _%_, _≤_, _<_}
 use native.Mathlib.Omega.{arith}

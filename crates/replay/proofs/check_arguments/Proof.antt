@@ -1,4 +1,5 @@
--- `replay::check_arguments` meets its contract: its tests are the checks, in their order, and after them the text decides.
+-- `replay::check_arguments` meets its contract: its tests are the checks, in their order, and after
+-- them the text decides.
 -- Assumes nothing.
 use mathlib.Core.Path.{sym, _∙_}
 use borrow.Author.Needs.{needs}

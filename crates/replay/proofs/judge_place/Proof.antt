@@ -1,5 +1,6 @@
--- `replay::judge_place` meets its contract: it refuses what the arguments' checks refuse. Where they pass, the text is a log, whose index is made
--- and whose cases are counted, and the counts give the verdict.
+-- `replay::judge_place` meets its contract: it refuses what the arguments' checks refuse. Where
+-- they pass, the text is a log, whose index is made and whose cases are counted, and the counts
+-- give the verdict.
 -- Assumes nothing.
 use Prim.Native.Nat.{_≤_}
 use native.Mathlib.Omega.{arith}

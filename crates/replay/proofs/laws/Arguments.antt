@@ -1,5 +1,5 @@
--- The arguments of a call on a log and a place: the first check that gives a refusal decides, and where they all pass, the text is a log under the
--- activity bound.
+-- The arguments of a call on a log and a place: the first check that gives a refusal decides, and
+-- where they all pass, the text is a log under the activity bound.
 -- Assumes nothing.
 use Prim.Native.Nat.{ℕ}
 use mathlib.Core.Path.{_≡_}

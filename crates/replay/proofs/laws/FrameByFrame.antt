@@ -1,5 +1,6 @@
--- Counting cases frame by frame gives the four case counts: each count is a sum over the frames, and a frame adds its cases to one of the four.
--- All cases of a log stay far below 2 to the power 54, where shares can be compared.
+-- Counting cases frame by frame gives the four case counts: each count is a sum over the frames,
+-- and a frame adds its cases to one of the four. All cases of a log stay far below 2 to the power
+-- 54, where shares can be compared.
 -- Assumes nothing.
 use Prim.Native.Nat.{ℕ, _+_, _*_, _^_, _≤_, _<_}
 use native.Mathlib.Nat.{add-zero}

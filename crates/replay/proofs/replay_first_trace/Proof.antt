@@ -1,5 +1,5 @@
--- `replay::replay_first_trace` meets its contract: it refuses what the arguments' checks refuse. Where they pass, the text is a log, and its first
--- frame's digits are handed on as a part of it.
+-- `replay::replay_first_trace` meets its contract: it refuses what the arguments' checks refuse.
+-- Where they pass, the text is a log, and its first frame's digits are handed on as a part of it.
 -- Assumes nothing.
 use mathlib.Core.Path.{sym, ap₂, _∙_}
 use mir.Syntax.{w16}

@@ -1,5 +1,5 @@
--- `replay::verdict_over` meets its contract: the cases of a log that was accepted are counted, and the counts, which are small enough to be
--- compared, give the verdict.
+-- `replay::verdict_over` meets its contract: the cases of a log that was accepted are counted, and
+-- the counts, which are small enough to be compared, give the verdict.
 -- Assumes nothing.
 use Prim.Native.Nat.{ℕ}
 use mathlib.Core.Path.{_≡_}

@@ -1,7 +1,8 @@
--- The case counts of a place over a log's frames: the four add up to all cases; all underfed cases are those of the frames that underfeed
--- the place, and all overfed cases those of the frames that overfeed it (document 01, "Tokens in one trace", second paragraph). Equal frames
--- may repeat, and their counts add up ("Settings and the log"). Each count is a sum over the frames: a frame's cases where its trace passes a
--- test, 0 elsewhere.
+-- The case counts of a place over a log's frames: the four add up to all cases; all underfed cases
+-- are those of the frames that underfeed the place, and all overfed cases those of the frames that
+-- overfeed it (document 01, "Tokens in one trace", second paragraph). Equal frames may repeat, and
+-- their counts add up ("Settings and the log"). Each count is a sum over the frames: a frame's
+-- cases where its trace passes a test, 0 elsewhere.
 -- Assumes nothing.
 use Prim.Native.Nat.{ℕ, _+_}
 use native.Mathlib.Nat.{add-zero, zero-add}

@@ -1,6 +1,7 @@
--- The least balance of a trace is the balance at one of its events and at most the balance at each. It lies from -254 to 0, and the last
--- balance from -254 to 254 (document 01, "Tokens in one trace"): a count is at most the number of events, which bounds every balance, and no
--- event comes before event 0, so the balance there is not above 0.
+-- The least balance of a trace is the balance at one of its events and at most the balance at each.
+-- It lies from -254 to 0, and the last balance from -254 to 254 (document 01, "Tokens in one
+-- trace"): a count is at most the number of events, which bounds every balance, and no event comes
+-- before event 0, so the balance there is not above 0.
 -- Assumes nothing.
 use Prim.Native.Nat.{ℕ, suc, _≤_, _<_}
 use native.Mathlib.Omega.{arith}

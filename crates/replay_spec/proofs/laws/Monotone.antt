@@ -1,7 +1,8 @@
--- The source's Theorem 2 for shares of all cases, with the strict comparison of its Definition 13: where p is at least as light as q, every
--- trace that underfeeds q underfeeds p, and every trace that overfeeds p overfeeds q; so it is with the case counts over a log, and with their
--- shares at every T. Among any events the lighter place has at most as many inputs and at least as many outputs, so none of its balances is
--- above that of the other.
+-- The source's Theorem 2 for shares of all cases, with the strict comparison of its Definition 13:
+-- where p is at least as light as q, every trace that underfeeds q underfeeds p, and every trace
+-- that overfeeds p overfeeds q; so it is with the case counts over a log, and with their shares at
+-- every T. Among any events the lighter place has at most as many inputs and at least as many
+-- outputs, so none of its balances is above that of the other.
 -- Assumes nothing.
 use Prim.Native.Nat.{ℕ, suc, _*_, _≤_, _<_}
 use native.Mathlib.Nat.{le-refl}

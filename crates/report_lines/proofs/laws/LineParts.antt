@@ -1,4 +1,5 @@
--- What a buffer holds once a line was put into it part by part: the digits of three numbers, each behind those before it, and a line feed.
+-- What a buffer holds once a line was put into it part by part: the digits of three numbers, each
+-- behind those before it, and a line feed.
 -- Assumes nothing.
 use Prim.Native.Nat.{ℕ, _+_, _-_, _≤_, _<_}
 use native.Mathlib.Omega.{arith}

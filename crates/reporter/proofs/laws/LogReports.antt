@@ -1,5 +1,6 @@
--- What is written of a log, from the answer and the buffers of its listing: the line of the refusal, or the words to report and the line of the run.
--- There are no more words than the list takes.
+-- What is written of a log, from the answer and the buffers of its listing: the line of the
+-- refusal, or the words to report and the line of the run. There are no more words than the list
+-- takes.
 -- Assumes nothing.
 use Prim.Native.Nat.{ℕ, _+_, _*_, _≤_}
 use native.Mathlib.Omega.{arith}

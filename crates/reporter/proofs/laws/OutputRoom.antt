@@ -52,7 +52,8 @@ log-fits s text = go (runRefusal s text) refl
         )
     go (some r) e = omega (arith, length-refusal r)
 
--- what decides what is written: the length of the input, then the form of the settings frame, then the log
+-- what decides what is written: the length of the input, then the form of the settings frame, then
+-- the log
 module _ (input : List ℕ) where
   pub too-large : mostInput < length input → placelist input ≡ refusalLine (TooLarge 0)
   unfolding placelist programRefusal

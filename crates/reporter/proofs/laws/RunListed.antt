@@ -1,6 +1,8 @@
--- What the answer and the buffers of a listing say of its run. The search was refused, or the answer carries its run; the words to report are the
--- first ones of the list if the run stopped, and the first ones of the second buffer if it completed. There they are the reduced list, since a
--- completed run found candidates, and a second buffer as long as the list takes all of their words: that reduction is never refused.
+-- What the answer and the buffers of a listing say of its run. The search was refused, or the
+-- answer carries its run; the words to report are the first ones of the list if the run stopped,
+-- and the first ones of the second buffer if it completed. There they are the reduced list, since a
+-- completed run found candidates, and a second buffer as long as the list takes all of their words:
+-- that reduction is never refused.
 -- Assumes nothing.
 use Prim.Native.Nat.{ℕ, _≤_}
 use native.Mathlib.Nat.{le-refl}
@@ -69,7 +71,8 @@ module _ (s : Settings) (text : List ℕ) (room : Capacity) (passes : runRefusal
       let few = not-refused s text passes .settings .few-activities in
       members-each _ (λ w at. candidate-under s few (placeOf w) (fitting .exactly (placeOf w) .0 (rw places at (Memᴰ·map placeOf at)) .0))
 
--- an answered run is that of this capacity, which is not refused, and so many words of a buffer are to be reported
+-- an answered run is that of this capacity, which is not refused, and so many words of a buffer are
+-- to be reported
 pub record Reports (s : Settings) (text : List ℕ) (room : Capacity) (x : Run) (count : ℕ) (buffer : List ℕ) : Type 0 where
   pub passes : runRefusal s text ≡ none
   pub own : x ≡ summary (run s text room)
@@ -106,7 +109,8 @@ module _ {s : Settings} {text : List ℕ} {resources : Resources} {answer : List
           these = rw (was .own, was .early, goes .leaves-found) (found-first (was .passes));
         }
 
-    -- where the second buffer is as long as the list, the reduction after a completed run answers how many words it kept, and they are its first
+    -- where the second buffer is as long as the list, the reduction after a completed run answers
+    -- how many words it kept, and they are its first
     module _ (long : length (resources .found) ≤ length (resources .kept)) where
       module _ (passes : runRefusal s text ≡ none) (ended : endOf made ≡ 0) where
         enough : length (stateOf made .found) ≤ length (resources .kept)

@@ -1,5 +1,5 @@
--- `reporter::report_input` meets its contract: an input that is too long is refused first, then one without a settings frame, and else the log
--- after the frame decides.
+-- `reporter::report_input` meets its contract: an input that is too long is refused first, then one
+-- without a settings frame, and else the log after the frame decides.
 -- Assumes nothing.
 use borrow.Author.Needs.{needs}
 use Prim.Native.Nat.{ℕ, _+_, _-_, _<_}

@@ -1,5 +1,5 @@
--- `reporter::report_log` meets its contract: what the listing answers and leaves says what is written of the log. Its reduction is never refused,
--- so that arm is never taken.
+-- `reporter::report_log` meets its contract: what the listing answers and leaves says what is
+-- written of the log. Its reduction is never refused, so that arm is never taken.
 -- Assumes nothing.
 use borrow.Author.Needs.{needs}
 use Prim.Native.Nat.{_≤_}

@@ -1,4 +1,5 @@
--- `reporter::report_places` meets its contract: the test of the room decides between the refusal and what placelist writes.
+-- `reporter::report_places` meets its contract: the test of the room decides between the refusal
+-- and what placelist writes.
 -- Assumes nothing.
 use borrow.Author.Needs.{needs}
 use borrow.Author.Tests.{lt-ltb, le-ltb}

@@ -1,5 +1,6 @@
--- A set by digit: at the last five bits of a digit's byte it has what the set has at the digit's value, since either part of the set is moved as a
--- whole. So an event by its digit is the event by its code.
+-- A set by digit: at the last five bits of a digit's byte it has what the set has at the digit's
+-- value, since either part of the set is moved as a whole. So an event by its digit is the event by
+-- its code.
 -- Assumes nothing.
 use Prim.Native.Nat.{ℕ, _+_, _-_, _/_, _%_, _^_, _<_}
 use native.Mathlib.Omega.{arith}

@@ -1,5 +1,6 @@
--- The codes in a trace's digits, read from an odd place on, two places a step; and that the codes of a written trace are the trace, where each
--- is below 16: the second digit of such a code is the code.
+-- The codes in a trace's digits, read from an odd place on, two places a step; and that the codes
+-- of a written trace are the trace, where each is below 16: the second digit of such a code is the
+-- code.
 -- Assumes nothing.
 use Prim.Native.Nat.{ℕ, zero, suc, _+_, _-_, _/_, _%_, _≤_, _<_}
 use native.Mathlib.Omega.{arith}

@@ -1,5 +1,6 @@
--- The bits that replaying an event computes with, read back: a signed local holds bits, and the numbers of a trace are far below 2 to the
--- power 15, so that each step is the step of the integers.
+-- The bits that replaying an event computes with, read back: a signed local holds bits, and the
+-- numbers of a trace are far below 2 to the power 15, so that each step is the step of the
+-- integers.
 -- Assumes nothing.
 use Prim.Native.Nat.{ℕ, _+_, _*_, _%_, _≤_}
 use native.Mathlib.Omega.{arith}

@@ -1,5 +1,6 @@
--- Replaying a trace event by event gives its last balance and its least balance. After k events the balance is that of the first k events, and
--- the least is that of the balances at them: one more event adds its set bits to the two counts, and its balance to the list of balances.
+-- Replaying a trace event by event gives its last balance and its least balance. After k events the
+-- balance is that of the first k events, and the least is that of the balances at them: one more
+-- event adds its set bits to the two counts, and its balance to the list of balances.
 -- Assumes nothing.
 use Prim.Native.Nat.{ℕ, zero, suc, _+_, _≤_, _<_}
 use native.Mathlib.Omega.{arith}

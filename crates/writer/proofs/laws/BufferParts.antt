@@ -1,4 +1,5 @@
--- A part of a buffer that stands directly behind what was written from its front: what is put there makes the front longer.
+-- A part of a buffer that stands directly behind what was written from its front: what is put there
+-- makes the front longer.
 -- Assumes nothing.
 use Prim.Native.Nat.{ℕ, _+_}
 use mathlib.Core.Path.{_≡_, refl, sym}

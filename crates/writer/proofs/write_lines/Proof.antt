@@ -1,5 +1,5 @@
--- `writer::write_lines` meets its contract. The loop's invariant: the lines of the words before the index stand in front of the buffer. The measure is
--- what is left of the words.
+-- `writer::write_lines` meets its contract. The loop's invariant: the lines of the words before the
+-- index stand in front of the buffer. The measure is what is left of the words.
 -- Assumes nothing.
 use Prim.Native.Nat.{_-_}
 use native.Mathlib.Omega.{arith}

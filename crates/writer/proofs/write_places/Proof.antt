@@ -1,5 +1,5 @@
--- `writer::write_places` meets its contract: a word that stands for no place is refused, then a buffer that is too short, and else the lines are
--- written.
+-- `writer::write_places` meets its contract: a word that stands for no place is refused, then a
+-- buffer that is too short, and else the lines are written.
 -- Assumes nothing.
 use native.Mathlib.Omega.{arith}
 use mathlib.Core.Path.{_≡_, refl, ap, _∙_}

@@ -1,4 +1,5 @@
--- `candidate_order::set::highest_of` meets its contract: the zeros above a set's highest code, that code's bit and those below it are 16.
+-- `candidate_order::set::highest_of` meets its contract: the zeros above a set's highest code, that
+-- code's bit and those below it are 16.
 -- Assumes nothing.
 use native.Mathlib.Omega.{arith}
 use lib.Count.{leading-top}

@@ -1,4 +1,5 @@
--- `candidate_order::set::is_within` meets its contract: the bits that the sets share are all of the first exactly where it is within the second.
+-- `candidate_order::set::is_within` meets its contract: the bits that the sets share are all of the
+-- first exactly where it is within the second.
 -- Assumes nothing.
 use Rattle.candidate_order_spec.proofs.laws.BitOperations.{shared-is-within}
 use Rattle.candidate_order.proofs.set.is_within.Statement.{statement}

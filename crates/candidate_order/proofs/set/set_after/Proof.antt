@@ -1,4 +1,5 @@
--- `candidate_order::set::set_after` meets its contract: each return is what the law of the set after a given one says of its highest code and its size.
+-- `candidate_order::set::set_after` meets its contract: each return is what the law of the set
+-- after a given one says of its highest code and its size.
 -- Assumes nothing.
 use Prim.Native.Nat.{suc, _+_, _^_, _≤_}
 use native.Mathlib.Omega.{arith}

@@ -1,4 +1,5 @@
--- `candidate_order::set::set_past` meets its contract: each return is what the law of the set past a given one says of its highest code.
+-- `candidate_order::set::set_past` meets its contract: each return is what the law of the set past
+-- a given one says of its highest code.
 -- Assumes nothing.
 use Prim.Native.Nat.{suc}
 use native.Mathlib.Omega.{arith}

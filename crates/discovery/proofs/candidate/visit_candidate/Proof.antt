@@ -1,4 +1,5 @@
--- `discovery::candidate::visit_candidate` meets its contract: the words rule the candidate, or the budget is spent, or it is replayed.
+-- `discovery::candidate::visit_candidate` meets its contract: the words rule the candidate, or the
+-- budget is spent, or it is replayed.
 -- Assumes nothing.
 use native.Mathlib.Nat.{sub-zero}
 use native.Mathlib.Omega.{arith}

@@ -1,5 +1,5 @@
--- `discovery::search::search_from` meets its contract. The loop's invariant: the candidates from the ones at hand on end as all do from the first on.
--- The measure is the number of output sets.
+-- `discovery::search::search_from` meets its contract. The loop's invariant: the candidates from
+-- the ones at hand on end as all do from the first on. The measure is the number of output sets.
 -- Assumes nothing.
 use native.Mathlib.Omega.{arith}
 use mathlib.Core.Path.{_∙_}

@@ -1,5 +1,5 @@
--- `discovery::search::search_inputs` meets its contract. The loop's invariant: the candidates from the input set at hand on end as all do from the
--- first on. The measure is their number.
+-- `discovery::search::search_inputs` meets its contract. The loop's invariant: the candidates from
+-- the input set at hand on end as all do from the first on. The measure is their number.
 -- Assumes nothing.
 use native.Mathlib.Omega.{arith}
 use mathlib.Core.Path.{_∙_}

@@ -1,5 +1,5 @@
--- `event_log::frame::trace_end` meets its contract. The loop's invariant: the trace ends where it ends from the start of the digits. The measure
--- is what is left of the text.
+-- `event_log::frame::trace_end` meets its contract. The loop's invariant: the trace ends where it
+-- ends from the start of the digits. The measure is what is left of the text.
 -- Assumes nothing.
 use Prim.Native.Nat.{_+_, _-_}
 use native.Mathlib.Omega.{arith}

@@ -1,5 +1,5 @@
--- `exact_cover::parts::gather` meets its contract. The loop's invariant: the words before the index that can be parts stand in front of the buffer. The
--- measure is what is left of the words.
+-- `exact_cover::parts::gather` meets its contract. The loop's invariant: the words before the index
+-- that can be parts stand in front of the buffer. The measure is what is left of the words.
 -- Assumes nothing.
 use Prim.Native.Nat.{_-_}
 use native.Mathlib.Omega.{arith}

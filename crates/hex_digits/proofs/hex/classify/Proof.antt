@@ -1,4 +1,5 @@
--- `hex_digits::hex::classify` meets its contract: each arm's range is decided by the definition's tests.
+-- `hex_digits::hex::classify` meets its contract: each arm's range is decided by the definition's
+-- tests.
 -- Assumes nothing.
 use borrow.Author.Needs.{needs}
 use borrow.Author.Tests.{le-leb, lt-leb}

@@ -1,4 +1,5 @@
--- `log_lines::line::advance` meets its contract: each arm knows the phase, and the code as far as the definition asks for it.
+-- `log_lines::line::advance` meets its contract: each arm knows the phase, and the code as far as
+-- the definition asks for it.
 -- Assumes nothing.
 use borrow.Author.Needs.{needs}
 use borrow.Author.Tests.{eq-eqb, ne-eqb}

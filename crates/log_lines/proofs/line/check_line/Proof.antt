@@ -1,5 +1,5 @@
--- `log_lines::line::check_line` meets its contract: the count and the activities give the line's shape, and the tests take its faults in the
--- order of checks.
+-- `log_lines::line::check_line` meets its contract: the count and the activities give the line's
+-- shape, and the tests take its faults in the order of checks.
 -- Assumes nothing.
 use Prim.Native.Nat.{_+_, _<_}
 use mathlib.Core.Path.{_≡_, sym, ap, _∙_}

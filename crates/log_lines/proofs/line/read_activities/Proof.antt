@@ -1,5 +1,6 @@
--- `log_lines::line::read_activities` meets its contract. The loop's invariant: the pass from where it stands answers what the pass from the
--- first activity answers, which `Scan` shows to be what the definitions say. The measure is what is left of the text.
+-- `log_lines::line::read_activities` meets its contract. The loop's invariant: the pass from where
+-- it stands answers what the pass from the first activity answers, which `Scan` shows to be what
+-- the definitions say. The measure is what is left of the text.
 -- Assumes nothing.
 use Prim.Native.Nat.{_-_}
 use mathlib.Core.Path.{_≡_, refl, sym, _∙_}

@@ -1,5 +1,6 @@
--- `placelist::input::read_input` meets its contract. The loop's invariant: the buffer is as long as it was, and the count lies within it. The measure is
--- what is left of the buffer, since a read that gives nothing is the last.
+-- `placelist::input::read_input` meets its contract. The loop's invariant: the buffer is as long as
+-- it was, and the count lies within it. The measure is what is left of the buffer, since a read
+-- that gives nothing is the last.
 -- Assumes nothing.
 use Prim.Native.Nat.{ℕ, _+_, _-_, _≤_}
 use native.Mathlib.Omega.{arith}

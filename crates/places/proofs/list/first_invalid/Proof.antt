@@ -1,5 +1,5 @@
--- `places::list::first_invalid` meets its contract. The loop's invariant: the words from the index on have the fault of all. The measure is what is
--- left of the words.
+-- `places::list::first_invalid` meets its contract. The loop's invariant: the words from the index
+-- on have the fault of all. The measure is what is left of the words.
 -- Assumes nothing.
 use Prim.Native.Nat.{_-_, _≤_}
 use native.Mathlib.Omega.{arith}

@@ -1,4 +1,5 @@
--- `reduction::union::is_redundant` meets its contract: a place is redundant exactly if words of the list other than its own cover it.
+-- `reduction::union::is_redundant` meets its contract: a place is redundant exactly if words of the
+-- list other than its own cover it.
 -- Assumes nothing.
 use native.Mathlib.Omega.{arith}
 use borrow.Author.Needs.{needs}

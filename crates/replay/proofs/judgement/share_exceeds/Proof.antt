@@ -1,4 +1,5 @@
--- `replay::judgement::share_exceeds` meets its contract: both products are below 1000 times 2 to the power 54, so neither wraps.
+-- `replay::judgement::share_exceeds` meets its contract: both products are below 1000 times 2 to
+-- the power 54, so neither wraps.
 -- Assumes nothing.
 use native.Mathlib.Nat.{mul-le-mul-right}
 use native.Mathlib.Omega.{arith}

@@ -1,4 +1,5 @@
--- `replay::judgement::verdict_on` meets its contract: the two shares are those of the definition, and each return has the verdict where they are so.
+-- `replay::judgement::verdict_on` meets its contract: the two shares are those of the definition,
+-- and each return has the verdict where they are so.
 -- Assumes nothing.
 use mathlib.Core.Path.{_≡_, sym, ap₂, _∙_}
 use borrow.Author.Needs.{needs}
