@@ -1,6 +1,3 @@
-pub mod AsTheyAre
-pub mod Recording
-pub mod Visiting
 pub mod PrunedAside
 pub mod Onward
 pub mod InputsLeft

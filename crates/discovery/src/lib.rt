@@ -17,14 +17,7 @@ use limits::settings_in_range;
 use log_lines::MOST_FRAMES;
 use places::Place;
 
-mod candidate; // candidate.rt: one candidate in its turn
 mod search; // search.rt: the candidates one after the other
-
-// What a candidate's turn leaves: the run with it, and whether its descendants are pruned.
-pub struct Turn {
-    pub run: Run,
-    pub prune: bool,
-}
 
 // Where a run stands, so that it can go on from there: what it did, and the candidate whose turn it is.
 pub struct Position {

@@ -27,7 +27,8 @@ use Rattle.discovery_spec.specs.declared.Discovered.the-variants.{Ran, Refused}
 use Rattle.discovery_spec.specs.declared.Run.{Run}
 use Rattle.discovery_spec.specs.Search.{start, search}
 use Rattle.discovery_spec.specs.Discovery.{run, runRefusal, discovered, discoveredNumber, discoveredValue, replaysIn, capacityOf, foundAfter, rejectedAfter}
-use Rattle.discovery.specs.Standing.{Searchable, stateIn, carriedOn, Leaves}
+use Rattle.candidate_visit.specs.Standing.{stateIn, Leaves}
+use Rattle.discovery.specs.Searching.{Searchable, carriedOn}
 use Rattle.discovery_spec.proofs.laws.AnswerLaws.{replays-within, discovered-numbered}
 use Rattle.discovery_spec.proofs.laws.CallChecks.{NotRefused}
 use Rattle.discovery.proofs.laws.OutputsLeft.{rows-whole}

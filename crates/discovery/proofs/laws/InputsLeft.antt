@@ -23,7 +23,7 @@ use Rattle.replay_spec.specs.declared.Verdict.{Verdict}
 use Rattle.discovery_spec.specs.declared.Run.{Run}
 use Rattle.discovery_spec.specs.Search.{Progress, going, isPruned, visit, step, stateOf}
 use Rattle.discovery_spec.specs.Discovery.{capacityOf}
-use Rattle.discovery.specs.Standing.{stateIn, Leaves, prunes}
+use Rattle.candidate_visit.specs.Standing.{stateIn, Leaves, prunes}
 use Rattle.discovery.proofs.laws.Onward.{Beginning, over, Done, Reached, reached-end, visits-left, reached-stop, reached-on}
 use Rattle.discovery.proofs.laws.PrunedAside.{NotBelow, run-pruned}
 use Rattle.discovery_spec.proofs.laws.RunSteps.{PrunedWith, Stepped, step-made}

@@ -18,9 +18,9 @@ use Rattle.replay_spec.specs.declared.Verdict.{Verdict}
 use Rattle.discovery_spec.specs.declared.Run.{Run}
 use Rattle.discovery_spec.specs.Search.{Capacity, State, Progress, going, stopped, step, stateOf, endOf}
 use Rattle.discovery_spec.specs.Discovery.{summary, capacityOf}
-use Rattle.discovery.specs.Standing.{stateIn, Stands, Leaves}
+use Rattle.candidate_visit.specs.Standing.{stateIn, Stands, Leaves}
 use Rattle.discovery_spec.proofs.laws.RunSteps.{EndGiven, Grown, run-grown, run-visits, run-end-given}
-use Rattle.discovery.proofs.laws.AsTheyAre.{stands-leaves}
+use Rattle.candidate_visit.proofs.laws.AsTheyAre.{stands-leaves}
 use Rattle.discovery.proofs.laws.PrunedAside.{NotBelow, pruning, pruningBelow, run-aside}
 
 -- two runs that answer the same and have the same words

@@ -25,7 +25,7 @@ use Rattle.candidate_order_spec.proofs.laws.Succession.{from-nothing, from-firs
 use Rattle.discovery_spec.specs.declared.Run.{Run}
 use Rattle.discovery_spec.specs.Search.{going, stateOf}
 use Rattle.discovery_spec.specs.Discovery.{capacityOf}
-use Rattle.discovery.specs.Standing.{stateIn, Leaves}
+use Rattle.candidate_visit.specs.Standing.{stateIn, Leaves}
 use Rattle.discovery.proofs.laws.Onward.{Beginning, over, Done, Reached, reached-end, visits-left, reached-stop, reached-on}
 use Rattle.discovery.proofs.laws.PrunedAside.{NotBelow}
 use Rattle.discovery_spec.proofs.laws.RunSteps.{run-outputs}

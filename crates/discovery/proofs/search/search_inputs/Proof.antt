@@ -7,7 +7,7 @@ use mathlib.Core.Logic.{inr}
 use lib.ListN.{length, length-map}
 use Rattle.event_log_spec.specs.Lines.{framesOf}
 use Rattle.replay_spec.specs.Judgement.{verdict}
-use Rattle.discovery.specs.Standing.{Searchable}
+use Rattle.discovery.specs.Searching.{Searchable}
 use Rattle.discovery.proofs.laws.Onward.{reached-start}
 use Rattle.discovery.proofs.laws.InputsLeft.{inputsFrom, InputsLeft, inputs-done, this-set, one-more, fewer-left, inputs-stop, inputs-on}
 use Rattle.discovery.proofs.search.search_inputs.Statement.{statement}

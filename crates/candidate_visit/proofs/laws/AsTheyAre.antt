@@ -10,7 +10,7 @@ use Rattle.foundation.proofs.laws.Buffers.{overwrite-front}
 use Rattle.discovery_spec.specs.declared.Run.{Run}
 use Rattle.discovery_spec.specs.Search.{going, stopped, stateOf, endOf}
 use Rattle.discovery_spec.specs.Discovery.{summary}
-use Rattle.discovery.specs.Standing.{stateIn, Stands, Leaves}
+use Rattle.candidate_visit.specs.Standing.{stateIn, Stands, Leaves}
 
 module _ {r : Run} {rejected found : List ℕ} (stands : Stands r rejected found) where
   pub rejected-same : rejected ≡ overwrite (stateIn r rejected found .rejected) rejected

@@ -18,9 +18,9 @@ use Rattle.discovery_spec.specs.declared.Run.{Run}
 use Rattle.rulings.specs.Rulings.{rulingOf}
 use Rattle.discovery_spec.specs.Search.{State, Progress, going, stopped, visited, replayedOnce, withPruned, proceed, conclude, replay, visit, stateOf, endOf}
 use Rattle.discovery_spec.specs.Discovery.{summary, capacityOf}
-use Rattle.discovery.specs.Standing.{stateIn, Stands, Leaves, prunes}
-use Rattle.discovery.proofs.laws.AsTheyAre.{rejected-same, found-same, stopped-leaves}
-use Rattle.discovery.proofs.laws.Recording.{saysOverfed, saysRuled, ruling-says}
+use Rattle.candidate_visit.specs.Standing.{stateIn, Stands, Leaves, prunes}
+use Rattle.candidate_visit.proofs.laws.AsTheyAre.{rejected-same, found-same, stopped-leaves}
+use Rattle.candidate_visit.proofs.laws.Recording.{saysOverfed, saysRuled, ruling-says}
 
 module _ (verdict : Place → Verdict) (budget : ℕ) (c : Place) {run : Run} {rejected found : List ℕ} (stands : Stands run rejected found) where
   abbrev state : State

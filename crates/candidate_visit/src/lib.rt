@@ -8,8 +8,7 @@ ghost use Rattle.rulings.specs.declared.Ruling.the-variants.{Unruled};
 ghost use Rattle.rulings.specs.Rulings.{rulingOf};
 ghost use Rattle.discovery_spec.specs.Search.{conclude, visit};
 ghost use Rattle.discovery_spec.specs.Discovery.{capacityOf};
-ghost use Rattle.discovery.specs.Standing.{stateIn, Stands, Leaves, prunes};
-use crate::Turn;
+ghost use Rattle.candidate_visit.specs.Standing.{stateIn, Stands, Leaves, prunes};
 use discovery_spec::BUDGET_SPENT;
 use discovery_spec::LIST_FULL;
 use discovery_spec::MARK_UNIT;
@@ -21,6 +20,12 @@ use replay_spec::Verdict;
 use replay_spec::mark_of;
 use rulings::Ruling;
 use rulings::ruling_by;
+
+// What a candidate's turn leaves: the run with it, and whether its descendants are pruned.
+pub struct Turn {
+    pub run: Run,
+    pub prune: bool,
+}
 
 // What follows the replay of a candidate that no word ruled: it is found, or its word goes where
 // there is room among the rejected. Only a word that was kept can prune, and then by its own mark.

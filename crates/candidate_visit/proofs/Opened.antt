@@ -1,7 +1,7 @@
 -- One name for all definitions of this layer and of those below it: a proof by computation says
 -- `unfolding opened`.
 -- Assumes nothing.
-use Rattle.discovery.specs.Standing.{stateIn, prunes}
+use Rattle.candidate_visit.specs.Standing.{stateIn, prunes}
 use Rattle.rulings.proofs.Opened.{opened as opened-rulings}
 
 unfoldable pub opened : Unit {0}

@@ -4,9 +4,9 @@
 use native.Mathlib.Omega.{arith}
 use mathlib.Core.Path.{sym, _∙_}
 use borrow.Author.Needs.{needs}
-use Rattle.discovery.proofs.laws.Recording.{unmarked, found-stored, list-full, word-stored, word-dropped}
-use Rattle.discovery.proofs.candidate.conclude_turn.Statement.{statement}
-use Rattle.discovery.proofs.candidate.conclude_turn.Tie as tie
+use Rattle.candidate_visit.proofs.laws.Recording.{unmarked, found-stored, list-full, word-stored, word-dropped}
+use Rattle.candidate_visit.proofs.conclude_turn.Statement.{statement}
+use Rattle.candidate_visit.proofs.conclude_turn.Tie as tie
 
 returns : tie.Need-returns
 returns c budget =

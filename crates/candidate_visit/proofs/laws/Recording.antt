@@ -28,9 +28,9 @@ use Rattle.discovery_spec.specs.Rejected.{markUnit, rejectedWord, rulesUnderfed
 use Rattle.rulings.specs.Rulings.{rulingOf}
 use Rattle.discovery_spec.specs.Search.{State, Progress, going, stopped, withFound, withRejected, withPruned, proceed, accept, reject, conclude, stateOf, endOf}
 use Rattle.discovery_spec.specs.Discovery.{summary, capacityOf}
-use Rattle.discovery.specs.Standing.{stateIn, Stands, Leaves, prunes}
+use Rattle.candidate_visit.specs.Standing.{stateIn, Stands, Leaves, prunes}
 use Rattle.discovery_spec.proofs.laws.Rulings.{isOverfed, own-overfed, overfed-more}
-use Rattle.discovery.proofs.laws.AsTheyAre.{rejected-same, found-same, stopped-leaves, stands-leaves}
+use Rattle.candidate_visit.proofs.laws.AsTheyAre.{rejected-same, found-same, stopped-leaves, stands-leaves}
 
 -- what a ruling says: that a word rules the candidate overfed, and that one rules it at all
 abbrev pub saysOverfed : Ruling → Bool

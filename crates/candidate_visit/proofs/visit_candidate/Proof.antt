@@ -9,10 +9,10 @@ use Rattle.event_log_spec.specs.Lines.{framesOf}
 use Rattle.replay_spec.specs.Judgement.{verdict}
 use Rattle.rulings.specs.declared.Ruling.the-variants.{AsUnderfed, AsOverfed}
 use Rattle.rulings.specs.Rulings.{rulingOf}
-use Rattle.discovery.specs.Standing.{stateIn}
-use Rattle.discovery.proofs.laws.Visiting.{skipped, budget-spent, replays-it}
-use Rattle.discovery.proofs.candidate.visit_candidate.Statement.{statement}
-use Rattle.discovery.proofs.candidate.visit_candidate.Tie as tie
+use Rattle.candidate_visit.specs.Standing.{stateIn}
+use Rattle.candidate_visit.proofs.laws.Visiting.{skipped, budget-spent, replays-it}
+use Rattle.candidate_visit.proofs.visit_candidate.Statement.{statement}
+use Rattle.candidate_visit.proofs.visit_candidate.Tie as tie
 
 -- the words at the front of the buffer are those of the state
 ruled : (c : tie.After-ruling-by)

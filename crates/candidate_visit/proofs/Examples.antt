@@ -6,8 +6,8 @@ use mathlib.Core.Bool.{true, false}
 use mathlib.Core.List.{[], _∷_}
 use Rattle.places.specs.Places.{place}
 use Rattle.discovery_spec.specs.Search.{start, going, withPruned}
-use Rattle.discovery.specs.Standing.{stateIn, prunes}
-use Rattle.discovery.proofs.Opened.{opened}
+use Rattle.candidate_visit.specs.Standing.{stateIn, prunes}
+use Rattle.candidate_visit.proofs.Opened.{opened}
 
 pub record StandingExamples : Type 0 where
   -- the words are those at the front, and what lies beyond is not read

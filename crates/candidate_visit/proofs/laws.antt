@@ -1,0 +1,3 @@
+pub mod AsTheyAre
+pub mod Recording
+pub mod Visiting
