@@ -1,4 +1,4 @@
--- `discovery::candidate::conclude_turn` meets its contract: a fitting candidate is found or stops
+-- `candidate_visit::conclude_turn` meets its contract: a fitting candidate is found or stops
 -- the run, and the word of another is stored or dropped.
 -- Assumes nothing.
 use native.Mathlib.Omega.{arith}

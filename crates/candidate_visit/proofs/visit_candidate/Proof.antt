@@ -1,4 +1,4 @@
--- `discovery::candidate::visit_candidate` meets its contract: the words rule the candidate, or the
+-- `candidate_visit::visit_candidate` meets its contract: the words rule the candidate, or the
 -- budget is spent, or it is replayed.
 -- Assumes nothing.
 use native.Mathlib.Nat.{sub-zero}
