@@ -72,7 +72,7 @@ pub fn is_misplaced(phase: Phase) -> bool
 }
 
 // The activities of a line whose line feed stands at `end`, by where its trace stands there.
-pub fn ended_at(end: usize, phase: Phase, unknown: bool) -> Activities
+fn ended_at(end: usize, phase: Phase, unknown: bool) -> Activities
     ensures { λ r. ⌜ r ≡ Read end unknown (incomplete phase) ⌝ }
 {
     Activities::Read {

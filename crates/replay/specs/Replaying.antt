@@ -28,6 +28,10 @@ argumentsChecked A inRange text p =
     (logRefusal (given (not inRange) InvalidSetting) (placeFault A 0 p) A text)
     (Accepted (length (framesOf text)) (totalCases (framesOf text)))
 
+-- how many verdicts there are
+abbrev pub verdicts : ℕ
+verdicts = 4
+
 -- the four case counts in a row, each at the number of its verdict
 abbrev pub countRow : CaseCounts → List ℕ
 countRow c = c .fitting ∷ c .underfed ∷ c .overfed ∷ c .both ∷ []

@@ -5,7 +5,7 @@ ghost use Prim.Native.Nat.{_+_, _^_, _≤_, _<_};
 ghost use lib.ListN.{length, getD};
 ghost use Rattle.event_log.specs.FrameIndex.{Indexed, framesBetween};
 ghost use Rattle.replay_spec.specs.Judgement.{caseCounts, casesOf, exceeds, verdictWhere, verdictOf, mark};
-ghost use Rattle.replay.specs.Replaying.{kindOf, withCases};
+ghost use Rattle.replay.specs.Replaying.{verdicts, kindOf, withCases};
 use event_log::index::frame_cases;
 use event_log::index::frame_digits;
 use places::Place;
@@ -15,16 +15,19 @@ use token_replay::Tokens;
 use token_replay::digit_sets;
 use token_replay::replay_trace;
 
+// How many verdicts there are, and counts of cases: one for each.
+const VERDICTS: usize = 4;
+
 // The number of the verdict that two tests give, without a branch: how traces go cannot be foretold.
 fn verdict_number(underfed: bool, overfed: bool) -> usize
-    ensures { λ r. ⌜ (r ≡ mark (verdictWhere underfed overfed)) × (r < 4) ⌝ }
+    ensures { λ r. ⌜ (r ≡ mark (verdictWhere underfed overfed)) × (r < verdicts) ⌝ }
 {
     underfed as usize + 2 * overfed as usize
 }
 
 // Adds the cases of one more trace to one of the four counts, by the signs of its least and its last
 // balance.
-fn add_cases(counts: &mut [u64; 4], tokens: Tokens, cases: u64)
+fn add_cases(counts: &mut [u64; VERDICTS], tokens: Tokens, cases: u64)
     requires { ⌜ getD (now counts) (kindOf tokens) 0 + cases < 2 ^ 64 ⌝ }
     ensures { λ _. ⌜ now (counts .exit) ≡ withCases (now (counts .entry)) tokens cases ⌝ }
 {
@@ -41,7 +44,7 @@ pub fn count_cases(text: &[u8], index: &[u64], from: usize, to: usize, place: Pl
     ensures { λ r. ⌜ r ≡ caseCounts place (framesBetween from to (now (text .entry))) ⌝ }
 {
     let sets = digit_sets(place);
-    let mut counts = [0u64; 4];
+    let mut counts = [0u64; VERDICTS];
     let mut frame = from;
     while frame < to {
         let tokens = replay_trace(frame_digits(text, index, frame), sets);
