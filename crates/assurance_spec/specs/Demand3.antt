@@ -41,41 +41,42 @@ runOf (Refused refusal) = none
 runOf (Incomplete run) = some run
 runOf (Complete run reduced) = some run
 
--- a run completes when it answers end 0
+-- a run completes: its end is 0
 abbrev pub Completed : Run → Type 0
 Completed run = run .end ≡ 0
 
--- a cache (shelf), a list and a replay budget (allowance) each at least as large as the first's
+-- cache (shelf), list and replay budget (allowance) of the second are none of them smaller
 pub record AtLeastAsLarge (first second : Resources) : Type 0 where
   pub rejected : length (first .rejected) ≤ length (second .rejected)
   pub found : length (first .found) ≤ length (second .found)
   pub budget : first .budget ≤ second .budget
 
--- words are exactly the fitting candidates: every through place within the size limits that is
--- neither underfed nor overfed, each exactly once, in the stated order, and nothing else
+-- the words are precisely those of the fitting candidates, the through places within mi and mo that
+-- are not underfed and not overfed: none is missing, none is there twice, there is no other, and
+-- they stand in the stated order
 pub record ExactlyFitting (s : Settings) (text : List ℕ) (words : List ℕ) : Type 0 where
   pub these : words ≡ map word (fittingCandidates s text)
   pub exactly : (p : Place) → List·Memᴰ p (map placeOf words) ↔ ((candidate s p ≡ true) × (fits s text p ≡ true))
   pub once : Ordered (λ (p q : Place). p ≡ q → ⊥) (map placeOf words)
   pub in-order : Ordered PlaceBefore (map placeOf words)
 
--- the kept words are exactly the listed ones whose place is no union of two or more non-overlapping
--- listed places, in that same order
+-- the kept words are precisely those listed words whose place is not the union of at least two
+-- non-overlapping listed places; the order stays the same
 pub record ExactlyIrredundant (listed kept : List ℕ) : Type 0 where
   pub these : kept ≡ reducedWords listed
   pub exactly : (w : ℕ) → List·Memᴰ w kept ↔ (List·Memᴰ w listed × (UnionOf listed (placeOf w) → ⊥))
   pub in-order : Ordered PlaceBefore (map placeOf kept)
 
--- the reduction of what a completed run found, where the second buffer is at least as long: it
--- answers how many words it kept, and they are the first ones of that buffer
+-- the reduction of what a completed run found, into a second buffer that is no shorter: it answers
+-- how many words it kept, and they stand at the front of that buffer
 unfoldable pub ReducedTo : Observed → Run → Type 0
 ReducedTo o run =
     let listed = foundIn run (o .found) in
     length listed ≤ length (o .resources .kept)
     → (count : ℕ) × (o .answer ≡ Complete run (Kept count)) × ExactlyIrredundant listed (take count (o .kept))
 
--- a run completes if its list can take every fitting candidate and its budget is at least the
--- number of candidates
+-- a run completes when its list has room for all fitting candidates and its budget is the number of
+-- candidates or more
 unfoldable pub AmpleCompletes : Settings → List ℕ → Resources → Run → Type 0
 AmpleCompletes s text resources run =
     length (fittingCandidates s text) ≤ length (resources .found) → length (candidates s) ≤ resources .budget → Completed run
@@ -83,29 +84,29 @@ AmpleCompletes s text resources run =
 module _ (s : Settings) (text : List ℕ) (first second : Observed) where
   -- what follows if the first run completes
   pub record IfFirstCompletes (run₁ run₂ : Run) : Type 0 where
-    -- so does the second, with no more replays and no more visits
+    -- the second does as well, and neither its replays nor its visits are more
     pub second-completes : Completed run₂
     pub no-more-replays : run₂ .replays ≤ run₁ .replays
     pub no-more-visits : run₂ .visits ≤ run₁ .visits
-    -- what each listed is then exactly the fitting candidates
+    -- both found precisely the fitting candidates
     pub first-listed : ExactlyFitting s text (foundIn run₁ (first .found))
     pub second-listed : ExactlyFitting s text (foundIn run₂ (second .found))
-    -- both reduced lists are exactly the listed places that are no union
+    -- both reductions keep precisely the found places that are no unions
     pub first-reduced : ReducedTo first run₁
     pub second-reduced : ReducedTo second run₂
 
   -- the claim about two runs
   pub record AnyTwoRuns (run₁ run₂ : Run) : Type 0 where
-    -- what the first listed is the beginning of what the second listed
+    -- what the first found stands at the front of what the second found
     pub beginning : (rest : List ℕ) × (foundIn run₂ (second .found) ≡ foundIn run₁ (first .found) ++ rest)
-    -- whatever its cache, a run completes if its list and its budget are large enough
+    -- with any cache, each of them completes when its list and its budget are large enough
     pub first-ample : AmpleCompletes s text (first .resources) run₁
     pub second-ample : AmpleCompletes s text (second .resources) run₂
     -- if the first completes
     pub if-first-completes : Completed run₁ → IfFirstCompletes run₁ run₂
 
-  -- demand 3: take any two runs, the second with a cache, a list and a budget each at least as
-  -- large as the first's
+  -- demand 3, of any two runs: cache, list and budget of the second are none of them smaller than
+  -- those of the first
   unfoldable pub Demand3 : Type 0
   Demand3 =
       (run₁ run₂ : Run)

@@ -29,7 +29,7 @@ isFitting Overfed = false
 isFitting Both = false
 
 module _ (s : Settings) (text : List ℕ) where
-  -- the place fits, as judged over the whole log at T
+  -- the place fits, by its verdict at T over all frames of the log
   unfoldable pub fits : Place → Bool
   fits p = isFitting (verdict (s .threshold) (framesOf text) p)
 
@@ -49,8 +49,8 @@ module _ (s : Settings) (text : List ℕ) where
   unfoldable pub FoundAll : Capacity → Type 0
   FoundAll room = foundBy room ≡ map word fittingCandidates
 
-  -- the fitting candidates are every candidate that is neither underfed nor overfed and nothing
-  -- else, each once, in the stated order; and their words tell them apart
+  -- the fitting candidates are all candidates that are not underfed and not overfed, and no others;
+  -- none is there twice, they stand in the stated order, and their words tell them apart
   pub record AllFitting : Type 0 where
     pub exactly : (p : Place) → List·Memᴰ p fittingCandidates ↔ ((candidate s p ≡ true) × (fits p ≡ true))
     pub once : Ordered (λ (p q : Place). p ≡ q → ⊥) fittingCandidates
@@ -74,14 +74,14 @@ module _ (s : Settings) (text : List ℕ) (first second : Capacity) where
 
   -- the claim about two runs
   pub record TwoRuns : Type 0 where
-    -- what the first found is the beginning of what the second found
+    -- what the first found stands at the front of what the second found
     pub beginning : (rest : List ℕ) × (foundBy s text second ≡ foundBy s text first ++ rest)
-    -- whatever its cache, a run completes that has room for every fitting candidate and a budget of
-    -- at least the number of candidates
+    -- with any cache, a run completes that has room for all fitting candidates and a budget of the
+    -- number of candidates or more
     pub ample :
         (room : Capacity) → length (fittingCandidates s text) ≤ room .found → length (candidates s) ≤ room .budget
         → Completes s text room
-    -- if the first completes, so does the second, with no more replays and visits, and each found
-    -- all fitting candidates
+    -- if the first completes the second does as well, neither its replays nor its visits are more,
+    -- and both found all fitting candidates
     pub complete : Completes s text first → BothComplete
     pub all-fitting : AllFitting s text

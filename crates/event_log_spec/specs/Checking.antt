@@ -78,7 +78,7 @@ logRefusal settings places A text =
       result-room = none;
     })
 
--- checking takes A and the text, and answers the number of frames and N
+-- checking takes A and the text, and answers how many frames there are, and N
 unfoldable pub checked : ℕ → List ℕ → Checked
 checked A text =
     answer

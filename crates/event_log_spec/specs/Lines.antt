@@ -33,7 +33,7 @@ readPairs [] = []
 readPairs (d ∷ []) = []
 readPairs (d ∷ (e ∷ bytes)) = readHex (d ∷ e ∷ []) ∷ readPairs bytes
 
--- the count, then two digits for each activity
+-- the count, and behind it the activities, by two digits each
 unfoldable pub frameOf : Line → Frame
 frameOf l = record { cases = readHex (take countDigits (l .bytes)); trace = readPairs (drop countDigits (l .bytes)) }
 

@@ -2,7 +2,7 @@
 // has no code.
 use limits::Refusal;
 
-// What checking a log answers: its number of frames and N, or the refusal.
+// What checking a log answers: how many frames it has and how many cases (N), or the refusal.
 pub enum Checked {
     Accepted { frames: usize, cases: u64 },
     Refused(Refusal),

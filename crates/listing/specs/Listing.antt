@@ -1,6 +1,6 @@
 -- A run and, after a completed one, the reduction of what it found: what both answer, and what the
--- buffers hold on return, refusals included. Document 01, the words of demand 3: after a completed
--- run, thinning is lent what was listed, as the run left it, with a second buffer.
+-- buffers hold on return, refusals included. Document 01, the words of demand 3: what a run found
+-- (listed), and the reduced (thinned) list.
 -- Assumes nothing.
 use Prim.Native.Nat.{ℕ}
 use mathlib.Core.Path.{_≡_}

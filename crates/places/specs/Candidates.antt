@@ -48,7 +48,7 @@ candidates s =
 unfoldable pub added : ℕ → ℕ → List ℕ
 added i j = keep (λ (a : ℕ). not (member i a)) (codes j)
 
--- j is i with one or more codes added, each above all of i
+-- j has all codes of i and at least one more, and each of the new ones is above all of i
 unfoldable pub extends : ℕ → ℕ → Bool
 extends i j =
     within i j

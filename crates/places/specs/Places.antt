@@ -66,8 +66,8 @@ wordsRefusal words short =
       result-room = none;
     })
 
--- p is at least as light as q (Definition 10): its inputs are among those of q, and it has all
--- outputs of q
+-- at least as light (Definition 10): the inputs of p are among those of q, and the outputs of q
+-- among those of p
 unfoldable pub lighter : Place → Place → Bool
 lighter p q = within (p .inputs) (q .inputs) && within (q .outputs) (p .outputs)
 

@@ -8,8 +8,8 @@ pub mod list; // list.rt: lists of places by their words
 // What the output activity 0 adds to the word of a place, which is I + 65,536 × O.
 pub const OUTPUT_UNIT: u32 = 65536;
 
-// A place (I, O): its input and its output activities, as sets in which code a stands for 2 to the
-// power a.
+// A place (I, O): its input and its output activities, each as a set, the sum of 2 to the power a
+// over its codes a.
 pub struct Place {
     pub inputs: u16,
     pub outputs: u16,

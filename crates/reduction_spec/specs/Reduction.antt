@@ -16,8 +16,8 @@ use Rattle.reduction_spec.specs.declared.Reduced.{Reduced}
 use Rattle.reduction_spec.specs.declared.Reduced.the-variants.{Kept, Refused}
 use Rattle.reduction_spec.specs.Unions.{isUnion}
 
--- a word is redundant, and dropped, exactly if its place is the union of two or more
--- non-overlapping places of the list
+-- a word is redundant, and dropped, exactly if its place is a union of at least two non-overlapping
+-- places of the list
 unfoldable pub redundant : List ℕ → ℕ → Bool
 redundant words w = isUnion words (placeOf w)
 

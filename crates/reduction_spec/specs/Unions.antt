@@ -1,6 +1,6 @@
--- A place that is the union of two or more non-overlapping places of a list: once as the sentence
--- says it, once as a test that computes. Document 01, "Thinning and writing"; the source's
--- Definition 9, but with two parts or more where that allows a single one.
+-- A place that is a union of at least two non-overlapping places of a list: once as a sentence says
+-- it, once as a test that computes. Document 01, "Thinning and writing"; the source's Definition 9,
+-- which is content with one part.
 -- Assumes nothing.
 use Prim.Native.Nat.{ℕ, _≤_}
 use mathlib.Core.Path.{_≡_}
@@ -17,7 +17,7 @@ unfoldable pub joinAll : List Place → Place
 joinAll [] = place 0 0
 joinAll (p ∷ ps) = join p (joinAll ps)
 
--- p is the union of two or more places of the list, of which no two overlap
+-- p is a union of at least two places of the list, and no two of these overlap
 pub record UnionOf (words : List ℕ) (p : Place) : Type 0 where
   pub parts : List Place
   pub several : 2 ≤ length parts
@@ -29,7 +29,7 @@ pub record UnionOf (words : List ℕ) (p : Place) : Type 0 where
 unfoldable pub samePlace : Place → Place → Bool
 samePlace p q = eqb (p .inputs) (q .inputs) && eqb (p .outputs) (q .outputs)
 
--- these places are two or more, non-overlapping, and their union is p
+-- these places are at least two, no two overlap, and their union is p
 unfoldable pub compose : Place → List Place → Bool
 compose p parts = leb 2 (length parts) && pairwise nonOverlapping parts && samePlace (joinAll parts) p
 

@@ -23,7 +23,7 @@ use Rattle.replay_spec.specs.Judgement.{caseCounts, verdict}
 unfoldable pub firstTrace : List ℕ → List ℕ
 firstTrace text = getD (framesOf text) 0 (record { cases = 0; trace = [] }) .trace
 
--- replaying checks the whole log and answers the least and the last balance of line 0
+-- replaying checks every line of the log, and answers the least and the last balance of line 0
 unfoldable pub replayed : ℕ → List ℕ → Place → Replayed
 replayed A text p =
     answer

@@ -27,7 +27,7 @@ pub enum Verdict {
     Both,
 }
 
-// What judging a place over a log answers.
+// The answer of judging a place: the case counts and the verdict, or the refusal.
 pub enum Judged {
     Counted {
         counts: CaseCounts,

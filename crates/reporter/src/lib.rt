@@ -22,19 +22,19 @@ use report_lines::settings_frame::settings_in;
 use writer::LINE_BYTES;
 use writer::Written;
 
-// The most bytes that are read: document 01's "at most 65,536 bytes".
+// The most bytes that the input may have; with more it is too large (oversize).
 pub const MOST_INPUT: usize = 65536;
 
 // The most bytes that are written: the lines of a full list, and the last line.
 pub const MOST_OUTPUT: usize = LINE_BYTES * LIST_WORDS + RUN_BYTES;
 
-// The words of the cache of rejected places: document 01's "Shelf 1,024 words".
+// The words of the cache of rejected places (shelf).
 const CACHE_WORDS: usize = 1024;
 
-// The words of the list, and of the buffer for the reduced list: "list 4,096".
+// The words of the list, and of the buffer for the reduced list.
 const LIST_WORDS: usize = 4096;
 
-// The replay budget: "allowance 1,000,000".
+// The replay budget (allowance).
 const REPLAY_BUDGET: u32 = 1000000;
 
 // Searches a log under settings, and writes the list and the last line, or the refusal.

@@ -39,7 +39,7 @@ fn marked_overfed(word: u64) -> bool
     mark == 2 || mark == 3
 }
 
-// Whether a word rules a candidate underfed: the candidate is at least as light as the word's place.
+// Whether a word rules a candidate underfed, as one that is at least as light as its place.
 fn rules_underfed(word: u64, candidate: Place) -> bool
     ensures { λ r. ⌜ r ≡ rulesUnderfed candidate word ⌝ }
 {
@@ -50,7 +50,7 @@ fn rules_underfed(word: u64, candidate: Place) -> bool
     }
 }
 
-// Whether a word rules a candidate overfed: the word's place is at least as light as the candidate.
+// Whether a word rules a candidate overfed, as one that its place is at least as light as.
 fn rules_overfed(word: u64, candidate: Place) -> bool
     ensures { λ r. ⌜ r ≡ rulesOverfed candidate word ⌝ }
 {

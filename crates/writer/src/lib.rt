@@ -53,9 +53,9 @@ pub fn write_lines(words: &[u32], text: &mut [u8]) -> usize
     count
 }
 
-// Document 01's writer: gives each list word as four digits of I, four of O and a line feed, and
-// answers the bytes written. A refusal leaves the buffer as it was, and a longer buffer keeps its
-// tail. The bytes of a list may be more than a number holds, so the room is divided.
+// Document 01's writer: turns the words of a list into their lines, and answers how many bytes that
+// makes. Bytes behind the lines stay what they were, and a refused call changes nothing. The bytes
+// of a list may be more than a number holds, so the room is divided.
 pub fn write_places(words: &[u32], text: &mut [u8]) -> Written
     ensures answer { λ r. ⌜ r ≡ written (now (words .entry)) (length (now (text .entry))) ⌝ }
     ensures text { λ _. ⌜ now (text .exit) ≡ writtenAfter (now (words .entry)) (now (text .entry)) ⌝ }

@@ -33,7 +33,7 @@ begins-refl xs = ([], sym (append-nil xs))
 pub begins-trans : (xs ys : List ℕ) {zs : List ℕ} → Begins xs ys → Begins ys zs → Begins xs zs
 begins-trans xs ys (r, e) (t, f) = (r ++ t, f ∙ ap (λ (l : List ℕ). l ++ t) e ∙ append-assoc xs r t)
 
--- what a run found is the beginning of what it finds later
+-- what a run found stands at the front of all that it finds later
 module _ (verdict : Place → Verdict) (room : Capacity) where
   pub replayed-grows : (c : Place) (s : State) {p : Progress} → ReplayOutcome verdict room c s p → Begins (s .found) (stateOf p .found)
   unfolding stateOf visited replayedOnce withFound withRejected

@@ -1,7 +1,7 @@
 -- What the word of a rejected place says. Its place and its mark can be read back, so it rules a
--- candidate overfed exactly if the place was overfed and is at least as light as the candidate, and
--- underfed exactly if the place was underfed and the candidate is at least as light. A candidate
--- ruled overfed passes that on to every heavier one, its descendants among them.
+-- candidate overfed exactly if the place was overfed and is at least as light, and underfed exactly
+-- if the place was underfed and the candidate is at least as light. A candidate ruled overfed
+-- passes that on to every heavier one, its descendants among them.
 -- Assumes nothing.
 use Prim.Native.Nat.{ℕ}
 use native.Mathlib.Omega.{arith}

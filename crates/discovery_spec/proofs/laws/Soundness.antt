@@ -22,7 +22,7 @@ use Rattle.discovery_spec.specs.TwoRuns.{isFitting}
 use Rattle.discovery_spec.proofs.laws.Rulings.{isUnderfed, isOverfed, rules-underfed, rules-overfed, underfed-more, overfed-more, overfed-kept, ruled-heavier}
 use Rattle.discovery_spec.proofs.laws.Outcomes.{prunedAfter, ReplayOutcome, spent, list-full, accepted, dropped, cached, Outcome, passed, known, replayed, step-outcome}
 
--- where p is at least as light as q, p is underfed if q is, and q is overfed if p is
+-- with p at least as light, p is underfed if q is, and q is overfed if p is
 pub record MonotoneVerdict (verdict : Place → Verdict) : Type 0 where
   pub underfed : (p q : Place) → lighter p q ≡ true → isUnderfed (verdict q) ≡ true → isUnderfed (verdict p) ≡ true
   pub overfed : (p q : Place) → lighter p q ≡ true → isOverfed (verdict p) ≡ true → isOverfed (verdict q) ≡ true

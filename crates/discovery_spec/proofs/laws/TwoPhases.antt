@@ -36,7 +36,7 @@ data Paired (verdict : Place → Verdict) (first : Capacity) : Progress → Prog
   halted : (end : ℕ) {s₁ : State} {p₂ : Progress} → 0 < end → Begins (s₁ .found) (stateOf p₂ .found)
       → Paired verdict first (stopped end s₁) p₂
 
--- the second run completes too, with no more replays and visits
+-- the second run completes too, and neither its replays nor its visits are more
 pub record CompletesToo (p₁ p₂ : Progress) : Type 0 where
   pub completes : endOf p₂ ≡ 0
   pub replays : stateOf p₂ .replays ≤ stateOf p₁ .replays
@@ -155,7 +155,7 @@ module _ (verdict : Place → Verdict) (monotone : MonotoneVerdict verdict) (fir
   paired-begins (apart a) = same-begins (a .found)
   paired-begins (halted end h b) = b
 
-  -- what the first run found is the beginning of what the second found
+  -- what the first run found stands at the front of what the second found
   pub first-begins : {cs : List Place} → Each Storable cs
       → Begins (stateOf (search verdict first cs) .found) (stateOf (search verdict second cs) .found)
   first-begins storable = paired-begins (paired-searches storable)
@@ -166,7 +166,7 @@ module _ (verdict : Place → Verdict) (monotone : MonotoneVerdict verdict) (fir
   paired-completes (apart a) e = record { completes = refl; replays = a .replays; visits = a .visits }
   paired-completes (halted end h b) e = absurd (omega arith)
 
-  -- where the first run completes, so does the second
+  -- where the first run completes, the second does as well
   pub second-completes : {cs : List Place} → Each Storable cs → endOf (search verdict first cs) ≡ 0
       → CompletesToo (search verdict first cs) (search verdict second cs)
   second-completes storable = paired-completes (paired-searches storable)

@@ -33,7 +33,7 @@ pub data FaultOrder (A k : ℕ) (l : Line) : Option Refusal → Type 0 where
   line-malformed : k < mostFrames → malformed l ≡ true → FaultOrder A k l (some (MalformedFrame k))
   -- number 5: neither, and the trace is too long
   trace-long : k < mostFrames → malformed l ≡ false → mostEvents < length (frameOf l .trace) → FaultOrder A k l (some (TooLarge k))
-  -- number 3: none of these, and the trace has a code of A or more
+  -- number 3: none of these, and the trace has a code that is not below A
   code-unknown : Readable k l → namesUnknown A (frameOf l .trace) ≡ true → FaultOrder A k l (some (UnknownActivity k))
   -- number 4: none of these, and the trace has its start or its end in a wrong place
   endpoint-misplaced : Readable k l → namesUnknown A (frameOf l .trace) ≡ false → endpointMisplaced (frameOf l .trace) ≡ true

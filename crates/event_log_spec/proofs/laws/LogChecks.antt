@@ -1,6 +1,6 @@
 -- The checks of a call on a log: nothing is refused exactly when its settings and its place pass,
 -- the text has a byte, and no line has a fault; where all but the lines pass, the lines decide.
--- Checking a log takes A alone, so its settings pass when A is in its range.
+-- To check a log A is enough, so the settings of that call pass when A is in its range.
 -- Assumes nothing.
 use Prim.Native.Nat.{ℕ, _≤_}
 use native.Mathlib.Omega.{arith}

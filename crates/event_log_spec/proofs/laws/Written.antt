@@ -1,5 +1,5 @@
--- A log is accepted exactly when it is built from frames in the written form, and then the answer
--- gives the number and the cases of the frames that it was built from; there is only one list of
+-- Exactly those texts are accepted that are built from frames in the written form. The answer gives
+-- the number and the cases of the frames that the text was built from; there is only one list of
 -- such frames. A text without a fault is its lines one after the other, each of them a frame's; and
 -- the lines of a written log are its frames', none of which has a fault.
 -- Assumes nothing.

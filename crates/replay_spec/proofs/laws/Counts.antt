@@ -48,12 +48,12 @@ without-and-with : (u v : Bool) (n : ℕ) → cond (not u && v) n 0 + cond (u &&
 without-and-with u v n = rw (and-comm (not u) v, and-comm u v) (with-and-without v u n)
 
 module _ (p : Place) (frames : List Frame) where
-  -- u of document 01: the cases underfed, only or both
+  -- u of document 01: all cases that underfeed
   pub underfed-all : underfedCases (caseCounts p frames) ≡ casesWhere (λ (t : List ℕ). underfeeds t p) frames
   unfolding underfedCases caseCounts
   underfed-all = cases-add _ _ _ (λ t. with-and-without (underfeeds t p) (overfeeds t p)) frames
 
-  -- v of document 01: the cases overfed, only or both
+  -- v of document 01: all cases that overfeed
   pub overfed-all : overfedCases (caseCounts p frames) ≡ casesWhere (λ (t : List ℕ). overfeeds t p) frames
   unfolding overfedCases caseCounts
   overfed-all = cases-add _ _ _ (λ t. without-and-with (underfeeds t p) (overfeeds t p)) frames

@@ -1,8 +1,8 @@
 -- The source's Theorem 2 for shares of all cases, with the strict comparison of its Definition 13:
--- where p is at least as light as q, every trace that underfeeds q underfeeds p, and every trace
--- that overfeeds p overfeeds q; so it is with the case counts over a log, and with their shares at
--- every T. Among any events the lighter place has at most as many inputs and at least as many
--- outputs, so none of its balances is above that of the other.
+-- for places p and q of which p is at least as light, every trace that underfeeds q underfeeds p,
+-- and every trace that overfeeds p overfeeds q; so it is with the case counts over a log, and with
+-- their shares at every T. Among any events the lighter place has at most as many inputs and at
+-- least as many outputs, so none of its balances is above that of the other.
 -- Assumes nothing.
 use Prim.Native.Nat.{ℕ, suc, _*_, _≤_, _<_}
 use native.Mathlib.Nat.{le-refl}
@@ -129,7 +129,7 @@ module _ (p q : Place) (light : lighter p q ≡ true) where
     overfed-le =
         rw (overfed-all p frames, overfed-all q frames) (cases-le _ _ frames (each-imply (λ f. overfeeds-heavier (f .trace)) known))
 
-    -- the log's cases, where p is at least as light as q
+    -- the log's cases, where p is at least as light
     pub monotone : Monotone p q frames
     monotone =
         record {
