@@ -1,15 +1,23 @@
 /*
  * Lists the places of a log, and says of each how many cases fit it.
  *
- *     places LOG ACTIVITIES MOST_INPUTS MOST_OUTPUTS THRESHOLD
+ *     places FILE
  *
- * LOG is a file; the four settings are decimal numbers. A refusal is told in words on standard error, and the exit status is then 1.
+ * FILE has a settings line and a log, as the program placelist reads them. The status is that of
+ * placelist: 0 complete, 1 a file failed, 2 usage, 3 refused, which is told in words on standard
+ * error, 4 the list is only a beginning.
  */
 #include <inttypes.h>
 #include <stdio.h>
 #include <stdlib.h>
+#include <string.h>
 
-#include "../placelist.h"
+#include <placelist.h>
+
+enum status { COMPLETE = 0, FILE_FAILED = 1, USAGE = 2, REFUSED = 3, STOPPED = 4 };
+
+/* The settings line: two digits each of activities, inputs and outputs, four of threshold. */
+#define SETTINGS_DIGITS 10
 
 struct settings {
     uint8_t activities;
@@ -37,50 +45,22 @@ struct list {
     size_t length;
 };
 
-/* A refusal in words. */
-static void say_refusal(uint8_t number, uint64_t value)
-{
-    switch (number) {
-    case PLACELIST_INVALID_SETTING:
-        fprintf(stderr, "a setting is out of its range");
-        break;
-    case PLACELIST_MALFORMED_FRAME:
-        fprintf(stderr, "line %" PRIu64 " of the log is no frame", value);
-        break;
-    case PLACELIST_UNKNOWN_ACTIVITY:
-        fprintf(stderr, "line %" PRIu64 " of the log has an unknown activity", value);
-        break;
-    case PLACELIST_MISPLACED_ENDPOINT:
-        fprintf(stderr, "line %" PRIu64 " of the log does not run from 00 to 01 with neither in between", value);
-        break;
-    case PLACELIST_TOO_LARGE:
-        fprintf(stderr, "line %" PRIu64 " of the log is too long or one too many", value);
-        break;
-    case PLACELIST_EMPTY_LOG:
-        fprintf(stderr, "the log is empty");
-        break;
-    case PLACELIST_INVALID_PLACE:
-        fprintf(stderr, "word %" PRIu64 " stands for no place", value);
-        break;
-    case PLACELIST_BUFFER_TOO_SMALL:
-        fprintf(stderr, "the buffer to be written is too short");
-        break;
-    }
-}
-
 /* Whether a call was refused; if so, says why. */
 static int refused(const char *call, uint8_t number, uint64_t value)
 {
     if (number == PLACELIST_NOT_REFUSED) {
         return 0;
     }
-    fprintf(stderr, "places: %s was refused: ", call);
-    say_refusal(number, value);
-    fprintf(stderr, " (number %u)\n", (unsigned)number);
+    char words[PLACELIST_EXPLAIN_BYTES];
+    placelist_explain(number, value, words, sizeof words);
+    fprintf(stderr, "places: %s was refused: %s (number %u)\n", call, words, (unsigned)number);
     return 1;
 }
 
-/* Checks the log and says how large it is; *cases is the number of its cases. Answers whether it went well, as all below do. */
+/*
+ * Checks the log and says how large it is; *cases is the number of its cases. Answers whether it went
+ * well, as the next three do.
+ */
 static int check(const struct settings *s, const struct log *log, uint64_t *cases)
 {
     uint64_t value, counts[PLACELIST_SIZE_LENGTH];
@@ -94,18 +74,22 @@ static int check(const struct settings *s, const struct log *log, uint64_t *case
 }
 
 /* Searches the places that fit; *complete says whether these are all. */
-static int search(const struct settings *s, const struct log *log, struct buffers *b, struct list *list, int *complete)
+static int search(const struct settings *s, const struct log *log, struct buffers *b,
+                  struct list *list, int *complete)
 {
-    static const char *const ends[] = { "complete", "stopped, the budget was spent", "stopped, the list was full" };
+    static const char *const ends[] = { "complete", "stopped, the budget was spent",
+                                        "stopped, the list was full" };
     uint64_t value, run[PLACELIST_RUN_LENGTH];
-    uint8_t number = placelist_search(s->activities, s->inputs, s->outputs, s->threshold, log->bytes, log->length,
-                                      PLACELIST_PROGRAM_BUDGET, b->rejected, PLACELIST_PROGRAM_REJECTED, b->found,
-                                      PLACELIST_PROGRAM_FOUND, &value, run);
+    uint8_t number = placelist_search(s->activities, s->inputs, s->outputs, s->threshold, log->bytes,
+                                      log->length, PLACELIST_PROGRAM_BUDGET, b->rejected,
+                                      PLACELIST_PROGRAM_REJECTED, b->found, PLACELIST_PROGRAM_FOUND,
+                                      &value, run);
     if (refused("the search", number, value)) {
         return 0;
     }
-    printf("search: %s; %" PRIu64 " places found, %" PRIu64 " rejected, %" PRIu64 " replays, %" PRIu64 " visits\n",
-           ends[run[PLACELIST_RUN_END]], run[PLACELIST_RUN_FOUND], run[PLACELIST_RUN_REJECTED], run[PLACELIST_RUN_REPLAYS],
+    printf("search: %s; %" PRIu64 " places found, %" PRIu64 " rejected, ",
+           ends[run[PLACELIST_RUN_END]], run[PLACELIST_RUN_FOUND], run[PLACELIST_RUN_REJECTED]);
+    printf("%" PRIu64 " replays, %" PRIu64 " visits\n", run[PLACELIST_RUN_REPLAYS],
            run[PLACELIST_RUN_VISITS]);
     list->words = b->found;
     list->length = (size_t)run[PLACELIST_RUN_FOUND];
@@ -117,7 +101,8 @@ static int search(const struct settings *s, const struct log *log, struct buffer
 static int reduce(struct buffers *b, struct list *list)
 {
     uint64_t value, count;
-    uint8_t number = placelist_reduce(list->words, list->length, b->kept, PLACELIST_PROGRAM_FOUND, &value, &count);
+    uint8_t number = placelist_reduce(list->words, list->length, b->kept, PLACELIST_PROGRAM_FOUND,
+                                      &value, &count);
     if (refused("the reduction", number, value)) {
         return 0;
     }
@@ -127,46 +112,64 @@ static int reduce(struct buffers *b, struct list *list)
     return 1;
 }
 
+/* Judges one place of the list: *fitting is the number of cases that fit it. */
+static int judge(const struct settings *s, const struct log *log, uint32_t word, uint64_t *fitting)
+{
+    uint64_t value, counts[PLACELIST_CASES_LENGTH];
+    uint8_t verdict;
+    uint8_t number = placelist_judge(s->activities, s->threshold, log->bytes, log->length,
+                                     placelist_inputs(word), placelist_outputs(word), &value, counts,
+                                     &verdict);
+    if (refused("the judgement", number, value)) {
+        return 0;
+    }
+    *fitting = counts[PLACELIST_CASES_FITTING];
+    return 1;
+}
+
 /* Writes the list, with how many cases fit each place. */
-static int write_list(const struct settings *s, const struct log *log, uint64_t cases, struct buffers *b, const struct list *list)
+static int write_list(const struct settings *s, const struct log *log, uint64_t cases,
+                      struct buffers *b, const struct list *list)
 {
     uint64_t value, bytes;
-    uint8_t number = placelist_write(list->words, list->length, b->text, sizeof b->text, &value, &bytes);
+    uint8_t number = placelist_write(list->words, list->length, b->text, sizeof b->text, &value,
+                                     &bytes);
     if (refused("the writing", number, value)) {
         return 0;
     }
     for (size_t i = 0; i < list->length; i++) {
-        uint64_t counts[PLACELIST_CASES_LENGTH];
-        uint8_t verdict;
-        number = placelist_judge(s->activities, s->threshold, log->bytes, log->length, placelist_inputs(list->words[i]),
-                                 placelist_outputs(list->words[i]), &value, counts, &verdict);
-        if (refused("the judgement", number, value)) {
+        const uint8_t *line = b->text + i * PLACELIST_LINE_BYTES;
+        uint64_t fitting;
+        if (!judge(s, log, list->words[i], &fitting)) {
             return 0;
         }
-        const uint8_t *line = b->text + i * PLACELIST_LINE_BYTES;
-        printf("%.*s: %" PRIu64 " of %" PRIu64 " cases fit\n", PLACELIST_LINE_BYTES - 1, (const char *)line,
-               counts[PLACELIST_CASES_FITTING], cases);
+        printf("%.*s: %" PRIu64 " of %" PRIu64 " cases fit\n", PLACELIST_LINE_BYTES - 1,
+               (const char *)line, fitting, cases);
     }
     return 1;
 }
 
 /* The whole job on a log that was read. */
-static int list_places(const struct settings *s, const struct log *log, struct buffers *b)
+static enum status list_places(const struct settings *s, const struct log *log, struct buffers *b)
 {
     uint64_t cases;
     struct list list;
     int complete;
     if (!check(s, log, &cases) || !search(s, log, b, &list, &complete)) {
-        return 0;
+        return REFUSED;
     }
+    /* a list that is not complete is left as found */
     if (complete && !reduce(b, &list)) {
-        return 0;
+        return REFUSED;
     }
-    return write_list(s, log, cases, b, &list);
+    if (!write_list(s, log, cases, b, &list)) {
+        return REFUSED;
+    }
+    return complete ? COMPLETE : STOPPED;
 }
 
-/* Reads a whole file. The caller frees log->bytes, which is never null after success, also for an empty file. */
-static int read_log(const char *path, struct log *log)
+/* Reads a whole file. The caller frees log->bytes, which is never null after success. */
+static int read_file(const char *path, struct log *log)
 {
     size_t room = PLACELIST_MOST_FRAME_BYTES;
     FILE *file = fopen(path, "rb");
@@ -194,22 +197,19 @@ static int read_log(const char *path, struct log *log)
     return read;
 }
 
-/* A decimal number from 0 to most. */
-static int read_number(const char *text, unsigned long most, unsigned long *number)
+/* The settings of the first line. Whether they are in range is for the library to say. */
+static int read_settings(const struct log *file, struct settings *s)
 {
-    char *end;
-    *number = strtoul(text, &end, 10);
-    return text[0] >= '0' && text[0] <= '9' && *end == '\0' && *number <= most;
-}
-
-/* The settings, as far as their types hold them. Whether they are in range is for the library to say. */
-static int read_settings(char **arguments, struct settings *s)
-{
-    unsigned long activities, inputs, outputs, threshold;
-    if (!read_number(arguments[0], UINT8_MAX, &activities) || !read_number(arguments[1], UINT8_MAX, &inputs)
-        || !read_number(arguments[2], UINT8_MAX, &outputs) || !read_number(arguments[3], UINT16_MAX, &threshold)) {
+    char line[SETTINGS_DIGITS + 1] = "";
+    unsigned activities, inputs, outputs, threshold;
+    if (file->length <= SETTINGS_DIGITS || file->bytes[SETTINGS_DIGITS] != '\n') {
         return 0;
     }
+    memcpy(line, file->bytes, SETTINGS_DIGITS);
+    if (strspn(line, "0123456789ABCDEF") != SETTINGS_DIGITS) {
+        return 0;
+    }
+    sscanf(line, "%2X%2X%2X%4X", &activities, &inputs, &outputs, &threshold);
     s->activities = (uint8_t)activities;
     s->inputs = (uint8_t)inputs;
     s->outputs = (uint8_t)outputs;
@@ -217,24 +217,37 @@ static int read_settings(char **arguments, struct settings *s)
     return 1;
 }
 
-int main(int count, char **arguments)
+/* The job on a file that was read. */
+static enum status list_file(const struct log *file)
 {
     struct settings settings;
-    struct log log;
-    if (count != 6 || !read_settings(arguments + 2, &settings)) {
-        fprintf(stderr, "usage: places LOG ACTIVITIES MOST_INPUTS MOST_OUTPUTS THRESHOLD\n");
-        return 2;
+    if (!read_settings(file, &settings)) {
+        fprintf(stderr, "places: the first line is no settings line\n");
+        return REFUSED;
     }
-    if (!read_log(arguments[1], &log)) {
-        fprintf(stderr, "places: cannot read %s\n", arguments[1]);
-        return 2;
-    }
+    struct log log = { file->bytes + SETTINGS_DIGITS + 1, file->length - SETTINGS_DIGITS - 1 };
     struct buffers *buffers = malloc(sizeof *buffers);
     if (!buffers) {
         fprintf(stderr, "places: no memory\n");
+        return FILE_FAILED;
     }
-    int done = buffers && list_places(&settings, &log, buffers);
+    enum status status = list_places(&settings, &log, buffers);
     free(buffers);
-    free(log.bytes);
-    return done ? 0 : 1;
+    return status;
+}
+
+int main(int count, char **arguments)
+{
+    struct log file;
+    if (count != 2) {
+        fprintf(stderr, "usage: places FILE\n");
+        return USAGE;
+    }
+    if (!read_file(arguments[1], &file)) {
+        fprintf(stderr, "places: cannot read %s\n", arguments[1]);
+        return FILE_FAILED;
+    }
+    enum status status = list_file(&file);
+    free(file.bytes);
+    return fflush(stdout) == 0 && !ferror(stdout) ? status : FILE_FAILED;
 }

@@ -21,7 +21,7 @@ pub fn of_model<T: Fields>(answer: Result<T, model::Refusal>) -> Answer {
 pub fn of_library<T: Fields>(answer: Result<T, placelist::Refusal>) -> Answer {
     answer
         .map(Fields::fields)
-        .map_err(|refusal| (refusal.number, refusal.value))
+        .map_err(|refusal| (refusal.number(), refusal.value))
 }
 
 impl Fields for usize {
@@ -75,18 +75,12 @@ impl Fields for model::Judgement {
 
 impl Fields for placelist::Judgement {
     fn fields(self) -> Vec<i64> {
-        let verdict = match self.verdict {
-            placelist::Verdict::Fitting => 0,
-            placelist::Verdict::Underfed => 1,
-            placelist::Verdict::Overfed => 2,
-            placelist::Verdict::Both => 3,
-        };
         let counts = [
             self.fitting,
             self.underfed,
             self.overfed,
             self.both,
-            verdict,
+            self.verdict as u64,
         ];
         counts.map(|count| count as i64).to_vec()
     }
@@ -102,8 +96,8 @@ impl Fields for model::Run {
 
 impl Fields for placelist::Run {
     fn fields(self) -> Vec<i64> {
-        let (end, found, rejected) = (self.end, self.found, self.rejected);
+        let (end, found, rejected) = (self.end as i64, self.found, self.rejected);
         let (replays, visits) = (self.replays.into(), self.visits.into());
-        vec![end.into(), found as i64, rejected as i64, replays, visits]
+        vec![end, found as i64, rejected as i64, replays, visits]
     }
 }

@@ -21,6 +21,7 @@ use Rattle.writer.specs.Writing.{written, writtenNumber, writtenValue}
 use Rattle.reporter.specs.Reporting.{reported}
 use Rattle.capi.specs.Settings.{settingsOf}
 use Rattle.capi.specs.Results.{sizesAfter, leastAfter, lastAfter, countsAfter, verdictAfter, runAfter, keptCountAfter, byteCountAfter}
+use Rattle.capi.specs.Version.{versionOf}
 use Rattle.capi.proofs.Opened.{opened}
 
 -- the number that a call answers, then the value beside it
@@ -96,6 +97,7 @@ pub record Examples : Type 0 where
   pub refusal-written : byteCountAfter (reported [] 36883) 7 ≡ 13
   pub report-refused : said writtenNumber writtenValue (reporting 36882) ≡ 8 ∷ 0 ∷ []
   pub report-as-found : byteCountAfter (reporting 36882) 7 ≡ 7
+  pub version-parts : versionOf 1 2 3 ≡ 66051
 
 pub examples : Examples
 unfolding opened
@@ -135,4 +137,5 @@ examples =
       refusal-written = refl;
       report-refused = refl;
       report-as-found = refl;
+      version-parts = refl;
     }

@@ -1,2 +1,3 @@
 pub mod Settings
 pub mod Results
+pub mod Version

@@ -16,6 +16,7 @@ ghost use Rattle.reporter.specs.Reporting.{reported, outputAfter};
 ghost use Rattle.capi.specs.Settings.{settingsOf};
 ghost use Rattle.capi.specs.Results.{sizesAfter, leastAfter, lastAfter, countsAfter, verdictAfter};
 ghost use Rattle.capi.specs.Results.{runAfter, keptCountAfter, byteCountAfter};
+ghost use Rattle.capi.specs.Version.{version};
 use discovery::discover;
 use discovery_spec::Discovered;
 use event_log::check_log;
@@ -35,6 +36,13 @@ use replay_spec::mark_of;
 use reporter::report_places;
 use writer::Written;
 use writer::write_places;
+
+// The version of the calls and formats, as `library/placelist.h` has it.
+const MAJOR: u32 = 1;
+
+const MINOR: u32 = 0;
+
+const PATCH: u32 = 0;
 
 // The answer of a refused call: the refusal's number, with its value written.
 fn refuse(refusal: Refusal, value: &mut u64) -> u8
@@ -67,6 +75,14 @@ fn answer_bytes(answer: Written, value: &mut u64, count: &mut u64) -> u8
             accept(value)
         }
     }
+}
+
+// The version of the calls and formats, so that a program can ask what it was linked with.
+#[no_mangle]
+pub extern "C" fn placelist_version() -> u32
+    ensures { λ r. ⌜ r ≡ version ⌝ }
+{
+    MAJOR * 65536 + MINOR * 256 + PATCH
 }
 
 // Checks a log: how many frames and cases it has.

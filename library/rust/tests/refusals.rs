@@ -1,5 +1,7 @@
-//! Every refusal, its value, the order of the checks, and that a refusal leaves every buffer as it was.
+//! Every refusal, its value, the order of the checks, and that a refusal leaves every buffer as it
+//! was.
 
+use placelist::RefusalKind::*;
 use placelist::*;
 
 const LOG: &[u8] = b"0001000201\n";
@@ -14,8 +16,8 @@ const SETTINGS: Settings = Settings {
     threshold: 0,
 };
 
-fn refusal(number: u8, value: u64) -> Refusal {
-    Refusal { number, value }
+fn refusal(kind: RefusalKind, value: u64) -> Refusal {
+    Refusal { kind, value }
 }
 
 /// That a search with these settings and this text gives this refusal and leaves both buffers.
@@ -28,8 +30,8 @@ fn search_refused(settings: Settings, text: &[u8], expected: Refusal) {
 }
 
 /// That every call that reads a log refuses this one so.
-fn log_refused(activities: u8, text: &[u8], number: u8, value: u64) {
-    let expected = refusal(number, value);
+fn log_refused(activities: u8, text: &[u8], kind: RefusalKind, value: u64) {
+    let expected = refusal(kind, value);
     assert_eq!(check(activities, text), Err(expected));
     assert_eq!(replay(activities, text, PLACE), Err(expected));
     assert_eq!(judge(activities, 0, text, PLACE), Err(expected));
@@ -53,11 +55,15 @@ fn frame(activities: usize) -> Vec<u8> {
 
 #[test]
 fn settings() {
-    for activities in [0, 1, 17, 255] {
-        log_refused(activities, LOG, 1, 0);
+    for activities in [0, LEAST_ACTIVITIES - 1, MOST_ACTIVITIES + 1, 255] {
+        log_refused(activities, LOG, InvalidSetting, 0);
     }
     for inputs in [0, 4] {
-        search_refused(Settings { inputs, ..SETTINGS }, LOG, refusal(1, 0));
+        search_refused(
+            Settings { inputs, ..SETTINGS },
+            LOG,
+            refusal(InvalidSetting, 0),
+        );
     }
     for outputs in [0, 4] {
         search_refused(
@@ -66,78 +72,81 @@ fn settings() {
                 ..SETTINGS
             },
             LOG,
-            refusal(1, 0),
+            refusal(InvalidSetting, 0),
         );
     }
-    for threshold in [1001, u16::MAX] {
-        assert_eq!(judge(3, threshold, LOG, PLACE), Err(refusal(1, 0)));
+    for threshold in [MOST_THRESHOLD + 1, u16::MAX] {
+        assert_eq!(
+            judge(3, threshold, LOG, PLACE),
+            Err(refusal(InvalidSetting, 0))
+        );
         search_refused(
             Settings {
                 threshold,
                 ..SETTINGS
             },
             LOG,
-            refusal(1, 0),
+            refusal(InvalidSetting, 0),
         );
     }
 }
 
 #[test]
 fn malformed_frames() {
-    log_refused(3, b"0001000201", 2, 0);
-    log_refused(3, b"0001000201\n0001000201", 2, 1);
-    log_refused(3, b"0001000201\n\n", 2, 1);
-    log_refused(3, b"000100201\n", 2, 0);
-    log_refused(3, b"000100\n", 2, 0);
-    log_refused(3, b"0000000201\n", 2, 0);
-    log_refused(16, b"000a000201\n", 2, 0);
-    log_refused(3, b"0001000201\r\n", 2, 0);
+    log_refused(3, b"0001000201", MalformedFrame, 0);
+    log_refused(3, b"0001000201\n0001000201", MalformedFrame, 1);
+    log_refused(3, b"0001000201\n\n", MalformedFrame, 1);
+    log_refused(3, b"000100201\n", MalformedFrame, 0);
+    log_refused(3, b"000100\n", MalformedFrame, 0);
+    log_refused(3, b"0000000201\n", MalformedFrame, 0);
+    log_refused(16, b"000a000201\n", MalformedFrame, 0);
+    log_refused(3, b"0001000201\r\n", MalformedFrame, 0);
 }
 
 #[test]
 fn activities_and_ends() {
-    log_refused(3, b"0001000201\n0001000301\n", 3, 1);
-    log_refused(3, b"00010201\n", 4, 0);
-    log_refused(3, b"00010002\n", 4, 0);
-    log_refused(3, b"000100000201\n", 4, 0);
-    log_refused(3, b"000100010201\n", 4, 0);
+    log_refused(3, b"0001000201\n0001000301\n", UnknownActivity, 1);
+    log_refused(3, b"00010201\n", MisplacedEndpoint, 0);
+    log_refused(3, b"00010002\n", MisplacedEndpoint, 0);
+    log_refused(3, b"000100000201\n", MisplacedEndpoint, 0);
+    log_refused(3, b"000100010201\n", MisplacedEndpoint, 0);
 }
 
 #[test]
 fn sizes() {
-    let most = frame(254);
-    assert_eq!(most.len(), 513);
+    let most = frame(MOST_FRAME_ACTIVITIES);
+    assert_eq!(most.len(), MOST_FRAME_BYTES);
     let one = LogSize {
         frames: 1,
         cases: 1,
     };
     assert_eq!(check(3, &most), Ok(one));
-    log_refused(3, &frame(255), 5, 0);
-    let full = LOG.repeat(4096);
+    log_refused(3, &frame(MOST_FRAME_ACTIVITIES + 1), TooLarge, 0);
+    let full = LOG.repeat(MOST_FRAMES);
     let all = LogSize {
-        frames: 4096,
-        cases: 4096,
+        frames: MOST_FRAMES as u64,
+        cases: MOST_FRAMES as u64,
     };
     assert_eq!(check(3, &full), Ok(all));
     let mut more = full;
     more.push(b'x');
-    log_refused(3, &more, 5, 4096);
+    log_refused(3, &more, TooLarge, MOST_FRAMES as u64);
 }
 
 #[test]
 fn empty_log() {
-    log_refused(3, b"", 6, 0);
+    log_refused(3, b"", EmptyLog, 0);
 }
 
 #[test]
 fn places() {
     for (inputs, outputs) in [(0, 2), (1, 0), (8, 2), (1, 8)] {
         let place = Place { inputs, outputs };
-        assert_eq!(replay(3, LOG, place), Err(refusal(7, 0)));
-        assert_eq!(judge(3, 0, LOG, place), Err(refusal(7, 0)));
+        assert_eq!(replay(3, LOG, place), Err(refusal(InvalidPlace, 0)));
+        assert_eq!(judge(3, 0, LOG, place), Err(refusal(InvalidPlace, 0)));
         // before the text, after the settings
-        assert_eq!(replay(3, b"", place), Err(refusal(7, 0)));
-        assert_eq!(judge(1, 0, LOG, place), Err(refusal(1, 0)));
+        assert_eq!(replay(3, b"", place), Err(refusal(InvalidPlace, 0)));
+        assert_eq!(judge(1, 0, LOG, place), Err(refusal(InvalidSetting, 0)));
     }
 }
 
@@ -147,8 +156,11 @@ fn words() {
     let mut kept = [9; 4];
     let mut text = [b'-'; 36];
     // before the room
-    assert_eq!(reduce(&words, &mut kept[..1]), Err(refusal(7, 2)));
-    assert_eq!(write(&words, &mut text[..1]), Err(refusal(7, 2)));
+    assert_eq!(
+        reduce(&words, &mut kept[..1]),
+        Err(refusal(InvalidPlace, 2))
+    );
+    assert_eq!(write(&words, &mut text[..1]), Err(refusal(InvalidPlace, 2)));
     assert_eq!((kept, text), ([9; 4], [b'-'; 36]));
 }
 
@@ -157,11 +169,20 @@ fn room() {
     let words = [0x0002_0001, 0x0002_0001];
     let mut kept = [9; 2];
     let mut text = [b'-'; 18];
-    assert_eq!(reduce(&words, &mut kept[..1]), Err(refusal(8, 0)));
-    assert_eq!(write(&words, &mut text[..17]), Err(refusal(8, 0)));
+    assert_eq!(
+        reduce(&words, &mut kept[..1]),
+        Err(refusal(BufferTooSmall, 0))
+    );
+    assert_eq!(
+        write(&words, &mut text[..17]),
+        Err(refusal(BufferTooSmall, 0))
+    );
     assert_eq!((kept, text), ([9; 2], [b'-'; 18]));
     let mut output = [b'-'; MOST_OUTPUT];
-    assert_eq!(report(LOG, &mut output[1..]), Err(refusal(8, 0)));
+    assert_eq!(
+        report(LOG, &mut output[1..]),
+        Err(refusal(BufferTooSmall, 0))
+    );
     assert_eq!(output, [b'-'; MOST_OUTPUT]);
 }
 
@@ -169,7 +190,7 @@ fn room() {
 fn no_words_need_no_room() {
     assert_eq!(reduce(&[], &mut []), Ok(0));
     assert_eq!(write(&[], &mut []), Ok(0));
-    assert_eq!(report(LOG, &mut []), Err(refusal(8, 0)));
+    assert_eq!(report(LOG, &mut []), Err(refusal(BufferTooSmall, 0)));
 }
 
 /// What the program writes for an input.
@@ -190,18 +211,20 @@ fn program_answers_its_refusals() {
         written(b"0303010000\n00010001\n00010201\n"),
         b"FF0400000001\n"
     );
-    let longest = [b'0'; 65_537];
+    let longest = [b'0'; MOST_INPUT + 1];
     assert_eq!(written(&longest), b"FF0500000000\n");
-    assert_eq!(written(&longest[..65_536]), b"FF0100000000\n");
+    assert_eq!(written(&longest[1..]), b"FF0100000000\n");
 }
 
+/// The words that all languages have in common.
 #[test]
 fn refusals_in_words() {
-    let all: Vec<String> = (1..=8)
-        .map(|number| refusal(number, 3).to_string())
-        .collect();
-    assert!(all.iter().all(|text| !text.is_empty()));
-    assert!(all[1..5].iter().all(|text| text.contains("line 3")));
-    let error: Box<dyn std::error::Error> = Box::new(refusal(6, 0));
+    let line = |kind: &RefusalKind| {
+        let refusal = refusal(*kind, 3);
+        format!("{} {refusal}\n", refusal.number())
+    };
+    let lines: String = RefusalKind::ALL.iter().map(line).collect();
+    assert_eq!(lines, include_str!("../../tests/refusals.txt"));
+    let error: Box<dyn std::error::Error> = Box::new(refusal(EmptyLog, 0));
     assert_eq!(error.to_string(), "the log is empty");
 }

@@ -74,12 +74,12 @@ fn m7_threshold() {
 
 #[test]
 fn m8_to_m10_refusals() {
-    let number = |activities, text| check(activities, text).unwrap_err();
-    assert_eq!(number(6, b"").number, 6);
-    assert_eq!(number(6, b"\n").number, 2);
-    assert_eq!(number(6, b"00000001\n").number, 2);
-    assert_eq!(number(2, SHORT).number, 3);
-    assert_eq!(number(6, b"00010100\n").number, 4);
+    let number = |activities, text| check(activities, text).unwrap_err().number();
+    assert_eq!(number(6, b""), 6);
+    assert_eq!(number(6, b"\n"), 2);
+    assert_eq!(number(6, b"00000001\n"), 2);
+    assert_eq!(number(2, SHORT), 3);
+    assert_eq!(number(6, b"00010100\n"), 4);
 }
 
 #[test]
@@ -87,7 +87,7 @@ fn m11_cache_sizes() {
     for (cache, stored, replays) in [(15, 15, 19), (40, 15, 19), (1, 1, 34), (0, 0, 36)] {
         let (run, rejected, found) = run_short(cache, 6, 36);
         let expected = Run {
-            end: 0,
+            end: End::Complete,
             found: 4,
             rejected: stored,
             replays,
@@ -106,24 +106,42 @@ fn m11_rejected_words() {
     let (run, rejected, _) = run_short(15, 4, 36);
     assert_eq!(run.rejected, 15);
     for word in rejected {
-        let judgement = judge(3, 0, SHORT, Place::from_word(word as u32)).unwrap();
-        let mark = match judgement.verdict {
-            Verdict::Fitting => 0,
-            Verdict::Underfed => 1,
-            Verdict::Overfed => 2,
-            Verdict::Both => 3,
-        };
-        assert_eq!(word >> 32, mark, "{word:X}");
+        let rejected = Rejected::from_word(word).unwrap();
+        let judgement = judge(3, 0, SHORT, rejected.place).unwrap();
+        assert_eq!(rejected.mark, judgement.verdict, "{word:X}");
+        assert_eq!(rejected.word(), word);
     }
+}
+
+#[test]
+fn words_that_no_search_writes() {
+    let word = u64::from(place(0x0001, 0x8000).word());
+    for mark in [0, 4, 0x101, 0xFFFF_FFFF] {
+        assert_eq!(Rejected::from_word(word | mark << 32), None);
+    }
+    let mark = Verdict::Fitting;
+    let place = place(0x0001, 0x8000);
+    assert_eq!(Rejected { place, mark }.word(), word);
 }
 
 #[test]
 fn m11_stops_early() {
     let (run, _, _) = run_short(4, 4, 4);
-    assert_eq!((run.end, run.replays, run.visits), (1, 4, 18));
+    assert_eq!(
+        (run.end, run.replays, run.visits),
+        (End::BudgetSpent, 4, 18)
+    );
     let (run, _, found) = run_short(15, 0, 36);
-    assert_eq!((run.end, run.replays, run.visits), (2, 5, 19));
+    assert_eq!((run.end, run.replays, run.visits), (End::ListFull, 5, 19));
     assert_eq!((run.found, found.len()), (0, 0));
+}
+
+#[test]
+fn ends_in_words() {
+    assert_eq!(End::Complete.to_string(), "complete");
+    let spent = "stopped, the budget was spent";
+    assert_eq!(End::BudgetSpent.to_string(), spent);
+    assert_eq!(End::ListFull.to_string(), "stopped, the list was full");
 }
 
 #[test]
@@ -133,8 +151,8 @@ fn m12_reduction() {
     let expected = [0x0002_0001, 0x0002_0004, 0x0004_0001];
     assert_eq!(kept[..3], expected);
     assert_eq!(kept[3..], [OLD_FOUND; 3]);
-    let mut text = [b'-'; 30];
-    assert_eq!(write(&kept[..3], &mut text), Ok(27));
+    let mut text = [b'-'; 3 * LINE_BYTES + 3];
+    assert_eq!(write(&kept[..3], &mut text), Ok(3 * LINE_BYTES));
     assert_eq!(&text, b"00010002\n00040002\n00010004\n---");
 }
 
