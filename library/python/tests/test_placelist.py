@@ -13,6 +13,7 @@ import tempfile
 import threading
 import unittest
 from concurrent.futures import ThreadPoolExecutor
+from contextlib import suppress
 from pathlib import Path
 from typing import Any, Callable, List, NamedTuple, Optional
 from unittest import mock
@@ -403,7 +404,8 @@ class Threads(unittest.TestCase):
         def change() -> None:
             while not done.is_set():
                 for log in logs:
-                    shared[:] = log
+                    with suppress(BufferError):  # while it is copied it keeps its length
+                        shared[:] = log
 
         thread = threading.Thread(target=change)
         thread.start()
