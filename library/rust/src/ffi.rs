@@ -1,7 +1,7 @@
 //! The calls of the archive, as it declares them. `library/placelist.h` says the same in C.
 //!
-//! The archive asks of a caller that pointers are valid for their length, non-null and aligned,
-//! also those of length 0; that lengths count elements; that what is read is initialised; and that
+//! The archive asks of a caller that pointers are aligned and valid for their length, and null at
+//! most where that is 0; that lengths count elements; that what is read is initialised; and that
 //! nothing that a call is given overlaps anything else. Every call of this crate keeps this,
 //! whatever the arguments of its public function:
 //! - a buffer comes from one slice, by `as_ptr` or `as_mut_ptr` with `len` of that same slice. A
