@@ -73,6 +73,17 @@ static int check(const struct settings *s, const struct log *log, uint64_t *case
     return 1;
 }
 
+/* Says why places were rejected, of those that the cache had room for. */
+static void tell_rejected(const uint64_t *rejected, uint64_t length)
+{
+    uint64_t marks[PLACELIST_BOTH + 1] = { 0 };
+    for (uint64_t i = 0; i < length; i++) {
+        marks[placelist_mark(rejected[i])]++;
+    }
+    printf("rejected: %" PRIu64 " underfed, %" PRIu64 " overfed, %" PRIu64 " both\n",
+           marks[PLACELIST_UNDERFED], marks[PLACELIST_OVERFED], marks[PLACELIST_BOTH]);
+}
+
 /* Searches the places that fit; *complete says whether these are all. */
 static int search(const struct settings *s, const struct log *log, struct buffers *b,
                   struct list *list, int *complete)
@@ -87,10 +98,10 @@ static int search(const struct settings *s, const struct log *log, struct buffer
     if (refused("the search", number, value)) {
         return 0;
     }
-    printf("search: %s; %" PRIu64 " places found, %" PRIu64 " rejected, ",
-           ends[run[PLACELIST_RUN_END]], run[PLACELIST_RUN_FOUND], run[PLACELIST_RUN_REJECTED]);
-    printf("%" PRIu64 " replays, %" PRIu64 " visits\n", run[PLACELIST_RUN_REPLAYS],
+    printf("search: %s; %" PRIu64 " places found, %" PRIu64 " replays, %" PRIu64 " visits\n",
+           ends[run[PLACELIST_RUN_END]], run[PLACELIST_RUN_FOUND], run[PLACELIST_RUN_REPLAYS],
            run[PLACELIST_RUN_VISITS]);
+    tell_rejected(b->rejected, run[PLACELIST_RUN_REJECTED]);
     list->words = b->found;
     list->length = (size_t)run[PLACELIST_RUN_FOUND];
     *complete = run[PLACELIST_RUN_END] == PLACELIST_COMPLETE;

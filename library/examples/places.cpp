@@ -109,6 +109,17 @@ uint64_t check(const Input &input)
     return counts[PLACELIST_SIZE_CASES];
 }
 
+// Says why places were rejected, of those that the cache had room for.
+void tell_rejected(const std::vector<uint64_t> &rejected)
+{
+    uint64_t marks[PLACELIST_BOTH + 1] = {};
+    for (const uint64_t word : rejected) {
+        marks[placelist_mark(word)]++;
+    }
+    std::cout << "rejected: " << marks[PLACELIST_UNDERFED] << " underfed, "
+              << marks[PLACELIST_OVERFED] << " overfed, " << marks[PLACELIST_BOTH] << " both\n";
+}
+
 // Searches the places that fit, and answers whether these are all.
 bool search(const Input &input, Words &found)
 {
@@ -123,10 +134,11 @@ bool search(const Input &input, Words &found)
         found.size(), &value, run);
     expect("the search", number, value);
     found.resize(run[PLACELIST_RUN_FOUND]);
+    rejected.resize(run[PLACELIST_RUN_REJECTED]);
     std::cout << "search: " << ends[run[PLACELIST_RUN_END]] << "; " << found.size()
-              << " places found, " << run[PLACELIST_RUN_REJECTED] << " rejected, "
-              << run[PLACELIST_RUN_REPLAYS] << " replays, " << run[PLACELIST_RUN_VISITS]
-              << " visits\n";
+              << " places found, " << run[PLACELIST_RUN_REPLAYS] << " replays, "
+              << run[PLACELIST_RUN_VISITS] << " visits\n";
+    tell_rejected(rejected);
     return run[PLACELIST_RUN_END] == PLACELIST_COMPLETE;
 }
 

@@ -136,7 +136,7 @@ _WORDS = {
 
 
 class Refusal(Exception):
-    """Why a call was refused: its number, 1 to 8, as an int and as a kind, and a value.
+    """Why a call was refused: its number, 1 to 8, as an int and as a kind, a value, and the text.
 
     The value is a line for 2 to 5, the index in the list or 0 for 7, else 0. Where several hold,
     the first of this order is given: 1; 7; 8; 6; then what the first line with a fault has, 5 for
@@ -148,9 +148,10 @@ class Refusal(Exception):
         self.kind = RefusalKind(number)
         self.number = int(number)
         self.value = value
+        self.text = _WORDS[self.kind].format(value)
 
     def __str__(self) -> str:
-        return _WORDS[self.kind].format(self.value)
+        return self.text
 
 
 class Settings(NamedTuple):

@@ -16,7 +16,7 @@ from typing import BinaryIO, Callable, List, Tuple, TypeVar
 sys.path.insert(0, os.path.join(os.path.dirname(os.path.realpath(__file__)), ".."))
 
 from placelist import (  # noqa: E402
-    LINE_BYTES, End, Place, Refusal, Settings, check, judge, reduce, search, write,
+    LINE_BYTES, End, Place, Refusal, Settings, Verdict, check, judge, reduce, search, write,
 )
 
 Answer = TypeVar("Answer")
@@ -91,8 +91,13 @@ def list_places(settings: Settings, log: bytes, out: BinaryIO) -> int:
     out.write(b"log: %d frames, %d cases\n" % size)
     run = ask("the search", search, settings, log)
     out.write(
-        b"search: %s; %d places found, %d rejected, %d replays, %d visits\n"
-        % (ENDS[run.end].encode(), len(run.found), len(run.rejected), run.replays, run.visits)
+        b"search: %s; %d places found, %d replays, %d visits\n"
+        % (ENDS[run.end].encode(), len(run.found), run.replays, run.visits)
+    )
+    marks = [rejected.mark for rejected in run.rejected]  # of those that the cache had room for
+    out.write(
+        b"rejected: %d underfed, %d overfed, %d both\n"
+        % tuple(map(marks.count, (Verdict.UNDERFED, Verdict.OVERFED, Verdict.BOTH)))
     )
     places = run.found
     if run.end is End.COMPLETE:  # a list that is not complete is left as found

@@ -249,7 +249,7 @@ class Refusals(unittest.TestCase):
                         pickle.loads(pickle.dumps(first))):
             self.assertEqual((refusal.number, refusal.value), (4, 7))
             self.assertIs(refusal.kind, RefusalKind.MISPLACED_ENDPOINT)
-            self.assertEqual(str(refusal), str(first))
+            self.assertEqual((str(refusal), refusal.text), (str(first), str(first)))
             self.assertEqual(repr(refusal), "Refusal(4, 7)")
         for number in (0, 9):
             self.assertRaises(ValueError, Refusal, number)
@@ -498,11 +498,12 @@ class Places(unittest.TestCase):
     def listed(self, text: bytes, last: str) -> List[str]:
         """The places that are written for an input, whose answer has this last line."""
         run = self.on(text)
-        size, search, *lines = run.stdout.splitlines()
+        size, search, rejected, *lines = run.stdout.splitlines()
         cases = re.fullmatch(r"log: \d+ frames, (\d+) cases", size)[1]
         counts = f"{int(last[2:10], 16)} replays, {int(last[10:], 16)} visits"
-        self.assertRegex(search, rf"^search: {self.ENDS[last[:2]]}; \d+ places found, ")
-        self.assertRegex(search, rf", \d+ rejected, {counts}$")
+        end = self.ENDS[last[:2]]
+        self.assertRegex(search, rf"^search: {end}; \d+ places found, {counts}$")
+        self.assertRegex(rejected, r"^rejected: \d+ underfed, \d+ overfed, \d+ both$")
         if last[:2] == "00":
             self.assertEqual(lines.pop(0), f"reduced: {len(lines)} places")
         for line in lines:

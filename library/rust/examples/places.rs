@@ -8,7 +8,8 @@
 //! placelist: 0 complete, 1 a file failed, 2 usage, 3 refused, which is told in words on standard
 //! error, 4 the list is only a beginning.
 
-use placelist::{check, judge, reduce, search, write, End, Place, Refusal, Settings};
+use placelist::{check, judge, reduce, search, write};
+use placelist::{End, Place, Refusal, Rejected, Settings, Verdict};
 use placelist::{LINE_BYTES, PROGRAM_BUDGET, PROGRAM_FOUND, PROGRAM_REJECTED};
 use std::ffi::{OsStr, OsString};
 use std::io::{self, Write};
@@ -136,10 +137,26 @@ fn search_places(
         .map_err(refused("the search"))?;
     found.truncate(run.found);
     out.push_str(&format!(
-        "search: {}; {} places found, {} rejected, {} replays, {} visits\n",
-        run.end, run.found, run.rejected, run.replays, run.visits
+        "search: {}; {} places found, {} replays, {} visits\n",
+        run.end, run.found, run.replays, run.visits
     ));
+    tell_rejected(&rejected[..run.rejected], out);
     Ok((run.end, found))
+}
+
+/// Says why places were rejected, of those that the cache had room for.
+fn tell_rejected(words: &[u64], out: &mut String) {
+    let rejected: Vec<Rejected> = words
+        .iter()
+        .copied()
+        .filter_map(Rejected::from_word)
+        .collect();
+    let count = |mark| rejected.iter().filter(|place| place.mark == mark).count();
+    let (underfed, overfed) = (count(Verdict::Underfed), count(Verdict::Overfed));
+    let both = count(Verdict::Both);
+    out.push_str(&format!(
+        "rejected: {underfed} underfed, {overfed} overfed, {both} both\n"
+    ));
 }
 
 /// The list without the places that are unions of others.
