@@ -53,6 +53,7 @@ static int refused(const char *call, uint8_t number, uint64_t value)
     }
     char words[PLACELIST_EXPLAIN_BYTES];
     placelist_explain(number, value, words, sizeof words);
+    fflush(stdout);
     fprintf(stderr, "places: %s was refused: %s (number %u)\n", call, words, (unsigned)number);
     return 1;
 }

@@ -49,6 +49,7 @@ import os
 from ctypes import POINTER, byref, c_char_p, c_int16, c_size_t
 from ctypes import c_uint8, c_uint16, c_uint32, c_uint64
 from enum import IntEnum
+from math import comb
 from operator import index
 from typing import Any, Iterable, List, NamedTuple, Set, Tuple, Union
 
@@ -386,6 +387,8 @@ def _setting(number: int, most: int) -> int:
 def _sets(place: Tuple[int, int]) -> Tuple[int, int]:
     """The sets of a place. One that does not fit its type becomes the empty set, which no place
     has either."""
+    if not isinstance(place, tuple) or len(place) != 2:
+        raise TypeError(f"a place is a Place or a pair of two sets, not {place!r}")
     inputs, outputs = map(index, place)
     return (inputs if 0 <= inputs <= _HALF else 0, outputs if 0 <= outputs <= _HALF else 0)
 
@@ -402,6 +405,18 @@ def _count(name: str, number: int) -> int:
     if not 0 <= number <= _WORD:
         raise ValueError(f"{name} is 0 to 4294967295, not {number}")
     return number
+
+
+def _candidates(activities: int, inputs: int, outputs: int) -> int:
+    """How many candidates there are within these settings: more than these are never listed and
+    never rejected, so no buffer has to be longer. 0 for settings that are refused."""
+    if not LEAST_ACTIVITIES <= activities <= MOST_ACTIVITIES:
+        return 0
+
+    def sets(most: int) -> int:
+        return sum(comb(activities, size) for size in range(1, min(most, activities) + 1))
+
+    return sets(inputs) * sets(outputs)
 
 
 def _accept(number: int, value: c_uint64) -> None:
@@ -477,8 +492,10 @@ def search(
     Refusals, in order: 1, 6, then of the first faulty line 5, 2, 3 or 4.
     """
     text = _bytes(log)
-    activities, inputs, outputs, threshold = settings
+    activities, inputs, outputs, threshold = map(index, settings)
     budget, cache, room = _count("budget", budget), _count("cache", cache), _count("room", room)
+    candidates = _candidates(activities, inputs, outputs)
+    cache, room = min(cache, candidates), min(room, candidates)
     rejected, found = (c_uint64 * cache)(), (c_uint32 * room)()
     value, run = c_uint64(), _Counts()
     number = _library.placelist_search(

@@ -27,7 +27,7 @@ fn main() {
 /// Where the archive is looked for.
 fn folder() -> PathBuf {
     match env::var_os("PLACELIST_LIB_DIR") {
-        Some(folder) => PathBuf::from(folder),
-        None => Path::new(env!("CARGO_MANIFEST_DIR")).join("../../target/library/lib"),
+        Some(folder) if !folder.is_empty() => PathBuf::from(folder),
+        _ => Path::new(env!("CARGO_MANIFEST_DIR")).join("../../target/library/lib"),
     }
 }

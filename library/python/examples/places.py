@@ -79,6 +79,7 @@ def run_program(name: str, job: Callable[[BinaryIO], int]) -> int:
             try:
                 return job(out)
             except Stop as stop:
+                out.flush()
                 say(f"{name}: {stop.words}")
                 return stop.status
     except OSError:

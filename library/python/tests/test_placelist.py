@@ -290,8 +290,21 @@ class Arguments(unittest.TestCase):
             for number in (-1, 2**32, 2**64 + 1):
                 with self.assertRaisesRegex(ValueError, f"{name} is 0 to 4294967295, not {number}"):
                     search(SHORT_SETTINGS, b"", **{name: number})
-        run = search(SHORT_SETTINGS, SHORT, budget=2**32 - 1)
+        most = 2**32 - 1  # a buffer of so many words is not made
+        run = search(SHORT_SETTINGS, SHORT, budget=most, cache=most, room=most)
         self.assertEqual((run.end, run.replays), (End.COMPLETE, 19))
+
+    def test_buffers_for_every_candidate(self) -> None:
+        """Every place fits, and is listed."""
+        for activities in (2, 3, 4):
+            sets = 2**activities - 1
+            settings = Settings(activities, activities, activities, 1000)
+            run = search(settings, b"00010001\n", room=2**32 - 1)
+            self.assertEqual((run.end, len(run.found)), (End.COMPLETE, sets * sets))
+            small = settings._replace(inputs=1, outputs=2)
+            run = search(small, b"00010001\n", room=2**32 - 1)
+            pairs = activities * (activities + 1) // 2
+            self.assertEqual((run.end, len(run.found)), (End.COMPLETE, activities * pairs))
 
     def test_no_numbers(self) -> None:
         for wrong in (3.0, "3", None):
@@ -301,8 +314,18 @@ class Arguments(unittest.TestCase):
             self.assertRaises(TypeError, replay, 3, SHORT, Place(value, 2))
             self.assertRaises(TypeError, reduce, [Place(1, value)])
             self.assertRaises(TypeError, write, [value])
+            self.assertRaises(TypeError, write, [(1, 2, value)])
             self.assertRaises(TypeError, search, SHORT_SETTINGS._replace(inputs=value), SHORT)
             self.assertRaises(TypeError, search, SHORT_SETTINGS, SHORT, value)
+
+    def test_no_places(self) -> None:
+        for wrong in ({1, 2}, [1, 2], b"\1\2", "12", {1: 2, 2: 1}, (1,), (1, 2, 3), 0x00020001):
+            value: Any = wrong
+            self.assertRaises(TypeError, replay, 3, SHORT, value)
+            self.assertRaises(TypeError, judge, 3, 0, SHORT, value)
+            self.assertRaises(TypeError, reduce, [value])
+            self.assertRaises(TypeError, write, [PLACE, value])
+        self.assertEqual(write([(1, 2)]), write([PLACE]))
 
     def test_words_and_codes(self) -> None:
         place = Place.from_codes({0, 2}, [1, 2, 2])
@@ -371,6 +394,7 @@ class Header(unittest.TestCase):
     def test_calls(self) -> None:
         declared = re.findall(r"^uint8_t\s+placelist_(\w+)\(([^)]*)\)[^;{]*;", self.text, re.M)
         self.assertEqual({name for name, _ in declared}, set(placelist._PARAMETERS))
+        self.assertLessEqual(set(placelist._PARAMETERS), set(placelist.__all__))
         for name, parameters in declared:
             types = tuple(map(self.type_of, parameters.split(",")))
             call = getattr(placelist._library, f"placelist_{name}")

@@ -6,7 +6,8 @@
 //!
 //! FILE has a settings line and a log, as the program placelist reads them. The status is that of
 //! placelist: 0 complete, 1 a file failed, 2 usage, 3 refused, which is told in words on standard
-//! error, 4 the list is only a beginning.
+//! error, 4 the list is only a beginning. A standard output that is closed is not noticed: Rust
+//! opens one that takes everything in its place.
 
 use placelist::{check, judge, reduce, search, write};
 use placelist::{End, Place, Refusal, Rejected, Settings, Verdict};

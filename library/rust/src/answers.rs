@@ -7,7 +7,7 @@ use std::fmt;
 pub struct Version {
     /// Raised where a format or the arguments of a call change.
     pub major: u16,
-    /// Raised where a call is added.
+    /// Raised where something is added.
     pub minor: u8,
     /// Raised where neither changes.
     pub patch: u8,

@@ -103,7 +103,7 @@ pub(crate) fn refused(number: u8, value: u64) -> Result<(), Refusal> {
     if number == 0 {
         return Ok(());
     }
-    match RefusalKind::ALL.get(usize::from(number) - 1) {
+    match RefusalKind::ALL.iter().find(|kind| **kind as u8 == number) {
         Some(&kind) => Err(Refusal { kind, value }),
         None => unreachable!("the archive gives no refusal {number}"),
     }

@@ -79,8 +79,7 @@ fn constants() {
 fn refusals() {
     let mut expected = enumerators("refusal");
     assert_eq!(expected.remove("NOT_REFUSED"), Some(0));
-    let numbers = RefusalKind::ALL.iter().map(|kind| *kind as usize);
-    assert!(numbers.eq(1..=RefusalKind::ALL.len()));
+    assert!(RefusalKind::ALL.is_sorted_by(|left, right| (*left as u8) < *right as u8));
     let kinds = RefusalKind::ALL
         .iter()
         .map(|kind| (format!("{kind:?}"), *kind as u8));
