@@ -200,10 +200,13 @@ static inline uint16_t placelist_outputs(uint64_t word)
     return (uint16_t)(word >> 16 & 0xFFFF);
 }
 
-/* The mark of a rejected word, an enum placelist_verdict: why the place was rejected. */
-static inline uint8_t placelist_mark(uint64_t rejected)
+/*
+ * The mark of a rejected word, all above its lower 32 bits: why the place was rejected, an enum
+ * placelist_verdict in every word that a search writes.
+ */
+static inline uint32_t placelist_mark(uint64_t rejected)
 {
-    return (uint8_t)(rejected >> 32 & 0xFF);
+    return (uint32_t)(rejected >> 32);
 }
 
 /* ---- Refusals in words ---- */

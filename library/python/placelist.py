@@ -409,7 +409,8 @@ def _count(name: str, number: int) -> int:
 
 def _candidates(activities: int, inputs: int, outputs: int) -> int:
     """How many candidates there are within these settings: more than these are never listed and
-    never rejected, so no buffer has to be longer. 0 for settings that are refused."""
+    never rejected, so no buffer has to be longer. Of settings that are refused any number will do.
+    """
     if not LEAST_ACTIVITIES <= activities <= MOST_ACTIVITIES:
         return 0
 

@@ -1,5 +1,6 @@
--- The version of the calls and of the formats that they read and write, as one number. The major part
--- is raised where a format or the arguments of a call change, the minor where a call is added.
+-- The version of the calls and of the formats that they read and write, as one number. The major
+-- part is raised where a format or the arguments of a call change, the minor where something is
+-- added, and the patch otherwise.
 -- Assumes nothing.
 use Prim.Native.Nat.{ℕ, _+_, _*_}
 
