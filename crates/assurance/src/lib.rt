@@ -1,5 +1,7 @@
 // Demand 3 of the written demands, on the calls themselves: any two runs on one log under the same
 // settings, and both reductions.
+#![tactic(auto)]
+
 ghost use Rattle.listing.specs.Listing.{resources_of, GoesAsWritten};
 ghost use Rattle.assurance_spec.specs.Demand3.{observed, Demand3};
 

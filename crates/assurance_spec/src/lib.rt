@@ -1,2 +1,3 @@
 // Demand 3 of the written demands, as a claim about the definitions: any two runs on one log under
 // the same settings, and both reductions. It has no code.
+#![tactic(auto)]

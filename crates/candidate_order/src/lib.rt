@@ -1,5 +1,7 @@
 // Sets and places compared, and sets stepped through in the stated order: document 01, "Candidates
 // and their order".
+#![tactic(auto)]
+
 ghost use Rattle.std.specs.Prelude.{◌≡◌};
 ghost use Rattle.places.specs.Places.{lighter};
 

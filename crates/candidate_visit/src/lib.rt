@@ -1,4 +1,6 @@
 // One candidate in its turn: document 01, "The walk", the list of what happens to a candidate.
+#![tactic(auto)]
+
 ghost use Rattle.std.specs.Prelude.{◌≡◌, ℕ, ◌+◌, ◌≤◌, ◌<◌, ◌^◌};
 ghost use Rattle.event_log_spec.specs.Lines.{frames_of};
 ghost use Rattle.event_log.specs.FrameIndex.{Indexed};

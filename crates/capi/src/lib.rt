@@ -2,6 +2,8 @@
 // its refusal, or 0, and writes what document 01 returns beside the number to `value`, or 0. Its
 // results are written only where it is not refused. In C a slice is a pointer and a length, and
 // what lies behind a `&mut` may overlap with nothing else that the call is given.
+#![tactic(auto)]
+
 ghost use Rattle.std.specs.Prelude.{◌≡◌, length};
 ghost use Rattle.limits.specs.Refusals.{number};
 ghost use Rattle.limits.specs.Refusals.{value as value_of};

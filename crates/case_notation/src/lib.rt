@@ -1,5 +1,7 @@
 // The notation of the table of cases: how its lines give numbers, texts and lists, and which words
 // and bytes are written together. What it means is said in `crates/cases/src/main.rt`.
+#![tactic(auto)]
+
 pub mod fields; // fields.rt: the words of a line
 pub mod lists; // lists.rt: lists in the table
 pub mod numbers; // numbers.rt: numbers in the table

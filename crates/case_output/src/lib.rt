@@ -1,4 +1,6 @@
 // What is written.
+#![tactic(auto)]
+
 ghost use Rattle.std.specs.Prelude.{◌≡◌, nat_abs};
 
 use case_notation::lists::widen;

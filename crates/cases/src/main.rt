@@ -29,6 +29,8 @@
 //
 // A line that names no call, lacks an argument or asks for more than the buffers have is no case,
 // and its answer says so.
+#![tactic(auto)]
+
 use libc::STDIN_FILENO;
 
 mod calls; // calls.rt: the calls by name, and a line of the table

@@ -1,4 +1,6 @@
 // Which activity the search for a cover takes up next: one that the fewest words can cover.
+#![tactic(auto)]
+
 ghost use Rattle.std.specs.Prelude.{◌≡◌, ◌≤◌, ◌<◌};
 ghost use Rattle.reduction_spec.specs.Cover.{usable, input_count, output_count, balanced};
 ghost use Rattle.cover_choice.specs.Choosing.{Highest, Tallied, Growable, Grown, Counts, Fewest, Chosen};

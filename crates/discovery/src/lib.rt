@@ -1,4 +1,6 @@
 // The search over candidates for the places that a log fits: document 01, "The walk".
+#![tactic(auto)]
+
 ghost use Rattle.std.specs.Prelude.{◌≡◌, ◌≤◌};
 ghost use Rattle.limits.specs.Refusals.{Numbered};
 ghost use Rattle.discovery_spec.specs.Discovery.{run_refusal, discovered, discovered_number, discovered_value, replays_in};

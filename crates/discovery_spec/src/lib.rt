@@ -1,5 +1,7 @@
 // What the search over candidates answers: document 01, "The walk". The search itself is defined in
 // specs/, and its code is in `discovery`.
+#![tactic(auto)]
+
 use limits::Refusal;
 
 // How a run ended: after the last candidate, with its replay budget spent, or with its list of

@@ -1,4 +1,6 @@
 // Case logs: document 01, "Settings and the log".
+#![tactic(auto)]
+
 ghost use Rattle.std.specs.Prelude.{◌≡◌};
 ghost use Rattle.std.proofs.Math.Option.{none};
 ghost use Rattle.limits.specs.Refusals.{Numbered};

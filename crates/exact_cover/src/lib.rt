@@ -1,6 +1,8 @@
 // Whether what is left of a place can be covered by places of a list, each activity once:
 // document 01, "Some places and their forms". Over list words, in which inputs and outputs are one
 // set of activities.
+#![tactic(auto)]
+
 ghost use Rattle.std.specs.Prelude.{◌≡◌, ◌↔◌, true, ◌<◌};
 ghost use Rattle.places.specs.Places.{through, place_of};
 ghost use Rattle.reduction_spec.specs.Cover.{Listable, Cover};

@@ -1,5 +1,7 @@
 // The settings of a call and the refusals that every call can answer with: document 01, "Settings
 // and the log".
+#![tactic(auto)]
+
 ghost use Rattle.std.specs.Prelude.{◌≡◌, ◌&&◌};
 ghost use Rattle.limits.specs.Refusals.{number, value};
 ghost use Rattle.limits.specs.Settings.{bound_in_range, size_in_range, threshold_in_range, settings_in_range};
@@ -34,6 +36,7 @@ pub enum Refusal {
 pub const MOST_ACTIVITIES: u8 = 16;
 
 // Whether an activity bound is in its range.
+#[tactic(auto, unfolding(crate::specs::Settings::bound_in_range))]
 pub fn bound_in_range(activities: u8) -> bool
     ensures { result ≡ bound_in_range activities }
 {
@@ -41,6 +44,7 @@ pub fn bound_in_range(activities: u8) -> bool
 }
 
 // Whether a threshold is in its range.
+#[tactic(auto, unfolding(crate::specs::Settings::threshold_in_range))]
 pub fn threshold_in_range(threshold: u16) -> bool
     ensures { result ≡ threshold_in_range threshold }
 {
@@ -59,6 +63,7 @@ pub fn bound_and_threshold_in_range(activities: u8, threshold: u16) -> bool
 }
 
 // Whether a bound on inputs or outputs is in its range.
+#[tactic(auto, unfolding(crate::specs::Settings::size_in_range))]
 pub fn size_in_range(activities: u8, size: u8) -> bool
     ensures { result ≡ size_in_range activities size }
 {
@@ -66,6 +71,7 @@ pub fn size_in_range(activities: u8, size: u8) -> bool
 }
 
 // Whether all four settings are in their ranges.
+#[tactic(auto, unfolding(crate::specs::Settings::settings_in_range))]
 pub fn settings_in_range(settings: Settings) -> bool
     ensures { result ≡ settings_in_range settings }
 {
@@ -82,6 +88,7 @@ pub fn settings_in_range(settings: Settings) -> bool
 }
 
 // The number of a refusal.
+#[tactic(auto, unfolding(crate::specs::Refusals::number))]
 pub fn number_of(refusal: Refusal) -> u8
     ensures { result ≡ number refusal }
 {
@@ -98,6 +105,7 @@ pub fn number_of(refusal: Refusal) -> u8
 }
 
 // What is returned beside the number.
+#[tactic(auto, unfolding(crate::specs::Refusals::value))]
 pub fn value_of(refusal: Refusal) -> usize
     ensures { result ≡ value refusal }
 {

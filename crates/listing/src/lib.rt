@@ -1,4 +1,6 @@
 // A run and, where it completes, the reduction of what it found: document 01, the words of demand 3.
+#![tactic(auto)]
+
 ghost use Rattle.listing.specs.Listing.{resources_of, GoesAsWritten};
 
 use discovery::discover;

@@ -1,4 +1,6 @@
 // The lines of a log, one by one: document 01, "Settings and the log".
+#![tactic(auto)]
+
 use limits::Refusal;
 
 pub mod line; // line.rt: checking a line

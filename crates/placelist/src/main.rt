@@ -1,6 +1,8 @@
 // The program placelist: it reads standard input, and writes the places of the log in it or the
 // refusal. What it writes for what it reads is the work of `reporter`. Where it cannot read or
 // write, it says so on standard error.
+#![tactic(auto)]
+
 use crate::input::{Input, read_input};
 use libc::{STDERR_FILENO, STDOUT_FILENO};
 use reporter::{MOST_INPUT, MOST_OUTPUT, report_places};

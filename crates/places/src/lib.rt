@@ -1,5 +1,7 @@
 // Sets of activities and places: document 01, "Candidates and their order" and the first sentences
 // of "Tokens in one trace".
+#![tactic(auto)]
+
 ghost use Rattle.std.specs.Prelude.{◌≡◌};
 ghost use Rattle.places.specs.Places.{below, place_under, word, place_of};
 
@@ -37,6 +39,7 @@ pub fn place_under(activities: u8, place: Place) -> bool
 }
 
 // The 32-bit word of a place.
+#[tactic(auto, unfolding(crate::specs::Places::word))]
 pub fn word_of(place: Place) -> u32
     ensures { result ≡ word place }
 {
@@ -44,6 +47,7 @@ pub fn word_of(place: Place) -> u32
 }
 
 // The place that a list word stands for.
+#[tactic(auto, unfolding(crate::specs::Places::place_of))]
 pub fn place_of(word: u32) -> Place
     ensures { result ≡ place_of word }
 {

@@ -1,5 +1,7 @@
 // Removing redundant places from a list: document 01, "Thinning and writing", where it is called
 // thinning.
+#![tactic(auto)]
+
 ghost use Rattle.std.specs.Prelude.{◌≡◌, ◌≤◌, length};
 ghost use Rattle.foundation.specs.Buffers.{overwrite};
 ghost use Rattle.limits.specs.Refusals.{Numbered};

@@ -1,4 +1,6 @@
 // Replaying traces and judging places: document 01, "Tokens in one trace".
+#![tactic(auto)]
+
 ghost use Rattle.std.specs.Prelude.{◌≡◌, ◌≤◌};
 ghost use Rattle.limits.specs.Refusals.{Numbered};
 ghost use Rattle.limits.specs.Settings.{bound_fault, bound_and_threshold_fault};

@@ -1,5 +1,7 @@
 // The types of what replaying and judging answer: document 01, "Tokens in one trace". The only code
 // is the number of a verdict.
+#![tactic(auto)]
+
 ghost use Rattle.std.specs.Prelude.{◌≡◌};
 ghost use Rattle.replay_spec.specs.Judgement.{mark};
 

@@ -1,5 +1,7 @@
 // The lines of the program placelist: the settings frame that it reads, and what it writes after a
 // listing. Document 01, "Thinning and writing", last paragraph.
+#![tactic(auto)]
+
 use limits::Settings;
 
 pub mod lines; // lines.rt: what is written after a listing

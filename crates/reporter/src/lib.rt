@@ -1,5 +1,7 @@
 // All of the program placelist but its reads and writes: document 01, "Thinning and writing", last
 // paragraph.
+#![tactic(auto)]
+
 ghost use Rattle.std.specs.Prelude.{◌≡◌, ◌≤◌, length};
 ghost use Rattle.foundation.specs.Buffers.{overwrite};
 ghost use Rattle.limits.specs.Refusals.{Numbered};

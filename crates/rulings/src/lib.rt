@@ -1,4 +1,6 @@
 // Which candidates the words of rejected places rule: document 01, "The walk", first two paragraphs.
+#![tactic(auto)]
+
 ghost use Rattle.std.specs.Prelude.{◌≡◌, ◌||◌, eqb};
 ghost use Rattle.discovery_spec.specs.Rejected.{mark_in, place_in, rules_underfed, rules_overfed};
 ghost use Rattle.rulings.specs.Rulings.{ruling_of};

@@ -1,4 +1,6 @@
 // Replaying one trace token by token: document 01, "Tokens in one trace", first paragraph.
+#![tactic(auto)]
+
 ghost use Rattle.std.specs.Prelude.{◌≡◌, ◌*◌, ◌≤◌, length, true};
 ghost use Rattle.std.specs.Int.Signed.{mag};
 ghost use Rattle.foundation.specs.Lists.{all};

@@ -1,4 +1,6 @@
 // Writing a list of places as text: document 01, "Thinning and writing", the writer.
+#![tactic(auto)]
+
 ghost use Rattle.std.specs.Prelude.{◌≡◌, ◌*◌, ◌≤◌, length};
 ghost use Rattle.foundation.specs.Buffers.{overwrite};
 ghost use Rattle.limits.specs.Refusals.{Numbered};

@@ -12,12 +12,12 @@ use Rattle.foundation.specs.Text.{bytes}
 pub record Examples : Type 0 where
   pub counted : up_to 4 ≡ 0 ∷ 1 ∷ 2 ∷ 3 ∷ []
   pub kept : keep (ltb 1) (up_to 4) ≡ 2 ∷ 3 ∷ []
-  pub all-below : all (λ (n : ℕ). ltb n 4) (up_to 4) ≡ true
+  pub all_below : all (λ (n : ℕ). ltb n 4) (up_to 4) ≡ true
   pub not_all_below : all (λ (n : ℕ). ltb n 3) (up_to 4) ≡ false
-  pub any-above : any (ltb 2) (up_to 4) ≡ true
+  pub any_above : any (ltb 2) (up_to 4) ≡ true
   pub none_above : any (ltb 3) (up_to 4) ≡ false
   pub ascending : pairwise ltb (up_to 4) ≡ true
-  pub not-ascending : pairwise ltb (1 ∷ 3 ∷ 2 ∷ []) ≡ false
+  pub not_ascending : pairwise ltb (1 ∷ 3 ∷ 2 ∷ []) ≡ false
   pub folded : foldl (λ (s n : ℕ). 10 * s + n) 0 (1 ∷ 2 ∷ 3 ∷ []) ≡ 123
   pub chosen : sublists (up_to 2) ≡ (0 ∷ 1 ∷ []) ∷ (0 ∷ []) ∷ (1 ∷ []) ∷ [] ∷ []
   pub added : sum (1 ∷ 2 ∷ 3 ∷ []) ≡ 6
@@ -29,12 +29,12 @@ examples =
     record {
       counted = refl;
       kept = refl;
-      all-below = refl;
+      all_below = refl;
       not_all_below = refl;
-      any-above = refl;
+      any_above = refl;
       none_above = refl;
       ascending = refl;
-      not-ascending = refl;
+      not_ascending = refl;
       folded = refl;
       chosen = refl;
       added = refl;

@@ -5,12 +5,12 @@ use Rattle.std.specs.Prelude.{ℕ, zero, suc, ◌+◌, Bool, true, false, cond, 
 -- P holds of each element
 pub data Each {A : Type 0} (P : A → Type 0) : List A → Type 0 where
   each_nil : Each P []
-  each-cons : {x : A} {xs : List A} → P x → Each P xs → Each P (x ∷ xs)
+  each_cons : {x : A} {xs : List A} → P x → Each P xs → Each P (x ∷ xs)
 
 -- every two elements are related, the earlier to the later
 pub data Ordered {A : Type 0} (R : A → A → Type 0) : List A → Type 0 where
-  ordered-nil : Ordered R []
-  ordered-cons : {x : A} {xs : List A} → Each (R x) xs → Ordered R xs → Ordered R (x ∷ xs)
+  ordered_nil : Ordered R []
+  ordered_cons : {x : A} {xs : List A} → Each (R x) xs → Ordered R xs → Ordered R (x ∷ xs)
 
 module _ {A : Type 0} where
   -- the elements that pass the test, in their order

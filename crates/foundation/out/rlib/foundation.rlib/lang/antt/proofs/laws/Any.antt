@@ -4,7 +4,7 @@ use mathlib.Core.Path.{◌≡◌, refl, sym, ap, ◌∙◌}
 use mathlib.Core.Bool.{Bool, true, false, not, ◌&&◌, ◌||◌, or-true, or_assoc, false≢true}
 use mathlib.Core.List.{List, [], ◌∷◌, ◌++◌, Memᴰ}
 use Rattle.foundation.specs.Lists.{all, any}
-use Rattle.foundation.proofs.laws.Booleans.{or-true-either}
+use Rattle.foundation.proofs.laws.Booleans.{or_true_either}
 
 -- some element of two lists in turn
 pub any_append : {A : Type 0} (p : A → Bool) (xs ys : List A) → any p (xs ++ ys) ≡ (any p xs || any p ys)
@@ -12,16 +12,16 @@ any_append p [] ys = refl
 any_append p (x ∷ xs) ys = ap (◌||◌ (p x)) (any_append p xs ys) ∙ sym (or_assoc (p x) (any p xs) (any p ys))
 
 -- what passes a test passes another that holds wherever the first does
-pub any-imply : {A : Type 0} {p q : A → Bool} → ((x : A) → p x ≡ true → q x ≡ true) → (xs : List A) → any p xs ≡ true → any q xs ≡ true
-any-imply h [] e = absurd (false≢true e)
-any-imply {p = p} {q = q} h (x ∷ xs) e =
-    or-true-either (p x) (any p xs) (λ here. rw (h x here)) (λ later. rw (any-imply h xs later) (or-true (q x))) e
+pub any_imply : {A : Type 0} {p q : A → Bool} → ((x : A) → p x ≡ true → q x ≡ true) → (xs : List A) → any p xs ≡ true → any q xs ≡ true
+any_imply h [] e = absurd (false≢true e)
+any_imply {p = p} {q = q} h (x ∷ xs) e =
+    or_true_either (p x) (any p xs) (λ here. rw (h x here)) (λ later. rw (any_imply h xs later) (or-true (q x))) e
 
 module _ {A : Type 0} (p : A → Bool) where
   -- none passes where all fail
-  pub not-any : (xs : List A) → not (any p xs) ≡ all (λ (x : A). not (p x)) xs
-  not-any [] = refl
-  not-any (x ∷ xs) = go (p x) (not-any xs)
+  pub not_any : (xs : List A) → not (any p xs) ≡ all (λ (x : A). not (p x)) xs
+  not_any [] = refl
+  not_any (x ∷ xs) = go (p x) (not_any xs)
     where
       fail : Bool
       fail = all (λ (y : A). not (p y)) xs
@@ -31,16 +31,16 @@ module _ {A : Type 0} (p : A → Bool) where
       go false e = e
 
   -- some element passes exactly if a member does
-  pub any-member : (xs : List A) → any p xs ≡ true → (x : A) × Memᴰ x xs × (p x ≡ true)
-  any-member [] e = absurd (false≢true e)
-  any-member (x ∷ xs) e =
-      or-true-either
+  pub any_member : (xs : List A) → any p xs ≡ true → (x : A) × Memᴰ x xs × (p x ≡ true)
+  any_member [] e = absurd (false≢true e)
+  any_member (x ∷ xs) e =
+      or_true_either
       (p x)
       (any p xs)
       (λ here. (x, Memᴰ.head refl, here))
-      (λ later. let found = any-member xs later in (found.0, Memᴰ.tail found.1, found.2))
+      (λ later. let found = any_member xs later in (found.0, Memᴰ.tail found.1, found.2))
       e
 
-  pub member-any : {x : A} {xs : List A} → Memᴰ x xs → p x ≡ true → any p xs ≡ true
-  member-any (Memᴰ.head e) passes = rw (ap p (sym e) ∙ passes)
-  member-any (Memᴰ.tail {x = y} later) passes = rw (member-any later passes) (or-true (p y))
+  pub member_any : {x : A} {xs : List A} → Memᴰ x xs → p x ≡ true → any p xs ≡ true
+  member_any (Memᴰ.head e) passes = rw (ap p (sym e) ∙ passes)
+  member_any (Memᴰ.tail {x = y} later) passes = rw (member_any later passes) (or-true (p y))

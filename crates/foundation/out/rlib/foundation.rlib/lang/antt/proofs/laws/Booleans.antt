@@ -13,27 +13,27 @@ cond_either P true hx hy = hx
 cond_either P false hx hy = hy
 
 -- a proof by the two values of a test
-pub by-test : {X : Type 0} (b : Bool) → (b ≡ true → X) → (b ≡ false → X) → X
-by-test true hx hy = hx refl
-by-test false hx hy = hy refl
+pub by_test : {X : Type 0} (b : Bool) → (b ≡ true → X) → (b ≡ false → X) → X
+by_test true hx hy = hx refl
+by_test false hx hy = hy refl
 
 -- two tests that hold in the same cases are the same
 pub same_truth : {a b : Bool} → (a ≡ true → b ≡ true) → (b ≡ true → a ≡ true) → a ≡ b
-same_truth {a = a} {b = b} there back = by-test a (λ e. e ∙ sym (there e)) (λ e. by-test b (λ f. back f ∙ sym f) (λ f. e ∙ sym f))
+same_truth {a = a} {b = b} there back = by_test a (λ e. e ∙ sym (there e)) (λ e. by_test b (λ f. back f ∙ sym f) (λ f. e ∙ sym f))
 
-pub or-false-parts : (a b : Bool) → a || b ≡ false → (a ≡ false) × (b ≡ false)
-or-false-parts true b e = absurd (true≢false e)
-or-false-parts false b e = (refl, e)
+pub or_false_parts : (a b : Bool) → a || b ≡ false → (a ≡ false) × (b ≡ false)
+or_false_parts true b e = absurd (true≢false e)
+or_false_parts false b e = (refl, e)
 
 -- what follows from either part follows from a disjunction
-pub or-true-either : {X : Type 0} (a b : Bool) → (a ≡ true → X) → (b ≡ true → X) → a || b ≡ true → X
-or-true-either true b hx hy e = hx refl
-or-true-either false b hx hy e = hy e
+pub or_true_either : {X : Type 0} (a b : Bool) → (a ≡ true → X) → (b ≡ true → X) → a || b ≡ true → X
+or_true_either true b hx hy e = hx refl
+or_true_either false b hx hy e = hy e
 
 -- where a test decides something, the negated test decides that it is not so
-pub not-decides : {P : Type 0} (b : Bool) → (b ≡ true) ↔ P → (not b ≡ true) ↔ (P → ⊥)
-not-decides true decides = (λ e. absurd (false≢true e), λ fails. absurd (fails (decides.0 refl)))
-not-decides false decides = (λ e holds. false≢true (decides.1 holds), λ fails. refl)
+pub not_decides : {P : Type 0} (b : Bool) → (b ≡ true) ↔ P → (not b ≡ true) ↔ (P → ⊥)
+not_decides true decides = (λ e. absurd (false≢true e), λ fails. absurd (fails (decides.0 refl)))
+not_decides false decides = (λ e holds. false≢true (decides.1 holds), λ fails. refl)
 
 -- nothing is so that 0 is 1: what `cc` finds where two constructors would be equal
 pub impossible : {X : Type 0} → ◌≡◌ {A = ℕ} 0 1 → X

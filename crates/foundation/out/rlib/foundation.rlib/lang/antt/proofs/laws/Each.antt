@@ -9,68 +9,68 @@ use mathlib.Core.List.{List, [], ◌∷◌, ◌++◌, map, flat_map}
 use lib.Dec.{eqb}
 use lib.ListN.{length, take, drop, get_or, length-append}
 use borrow.Author.Tests.{eqb-true, eqb-false}
-use Rattle.foundation.specs.Lists.{Each, each_nil, each-cons, keep, all, any, up_to}
-use Rattle.foundation.proofs.laws.Booleans.{cond_either, or-false-parts}
-use Rattle.foundation.proofs.laws.Lists.{each-head}
+use Rattle.foundation.specs.Lists.{Each, each_nil, each_cons, keep, all, any, up_to}
+use Rattle.foundation.proofs.laws.Booleans.{cond_either, or_false_parts}
+use Rattle.foundation.proofs.laws.Lists.{each_head}
 
 module _ {A : Type 0} {P : A → Type 0} where
-  pub each-imply : {Q : A → Type 0} {xs : List A} → ((x : A) → P x → Q x) → Each P xs → Each Q xs
-  each-imply f each_nil = each_nil
-  each-imply f (each-cons {x = x} here later) = each-cons (f x here) (each-imply f later)
+  pub each_imply : {Q : A → Type 0} {xs : List A} → ((x : A) → P x → Q x) → Each P xs → Each Q xs
+  each_imply f each_nil = each_nil
+  each_imply f (each_cons {x = x} here later) = each_cons (f x here) (each_imply f later)
 
-  pub each-always : ((x : A) → P x) → (xs : List A) → Each P xs
-  each-always h [] = each_nil
-  each-always h (x ∷ xs) = each-cons (h x) (each-always h xs)
+  pub each_always : ((x : A) → P x) → (xs : List A) → Each P xs
+  each_always h [] = each_nil
+  each_always h (x ∷ xs) = each_cons (h x) (each_always h xs)
 
   pub each_take : (n : ℕ) {xs : List A} → Each P xs → Each P (take n xs)
   each_take zero e = each_nil
   each_take (suc n) each_nil = each_nil
-  each_take (suc n) (each-cons here later) = each-cons here (each_take n later)
+  each_take (suc n) (each_cons here later) = each_cons here (each_take n later)
 
-  pub each-drop : (n : ℕ) {xs : List A} → Each P xs → Each P (drop n xs)
-  each-drop zero e = e
-  each-drop (suc n) each_nil = each_nil
-  each-drop (suc n) (each-cons here later) = each-drop n later
+  pub each_drop : (n : ℕ) {xs : List A} → Each P xs → Each P (drop n xs)
+  each_drop zero e = e
+  each_drop (suc n) each_nil = each_nil
+  each_drop (suc n) (each_cons here later) = each_drop n later
 
   pub each_append : {xs ys : List A} → Each P xs → Each P ys → Each P (xs ++ ys)
   each_append each_nil e = e
-  each_append (each-cons here later) e = each-cons here (each_append later e)
+  each_append (each_cons here later) e = each_cons here (each_append later e)
 
-  pub each-front : (xs ys : List A) → Each P (xs ++ ys) → Each P xs
-  each-front [] ys e = each_nil
-  each-front (x ∷ xs) ys (each-cons here later) = each-cons here (each-front xs ys later)
+  pub each_front : (xs ys : List A) → Each P (xs ++ ys) → Each P xs
+  each_front [] ys e = each_nil
+  each_front (x ∷ xs) ys (each_cons here later) = each_cons here (each_front xs ys later)
 
   pub each_back : (xs ys : List A) → Each P (xs ++ ys) → Each P ys
   each_back [] ys e = e
-  each_back (x ∷ xs) ys (each-cons here later) = each_back xs ys later
+  each_back (x ∷ xs) ys (each_cons here later) = each_back xs ys later
 
   pub each_both : {Q : A → Type 0} {xs : List A} → Each P xs → Each Q xs → Each (λ (x : A). P x × Q x) xs
   each_both each_nil each_nil = each_nil
-  each_both (each-cons here later) (each-cons here' later') = each-cons (here, here') (each_both later later')
+  each_both (each_cons here later) (each_cons here' later') = each_cons (here, here') (each_both later later')
 
   pub each_keep : (p : A → Bool) {xs : List A} → Each P xs → Each P (keep p xs)
   each_keep p each_nil = each_nil
-  each_keep p (each-cons {x = x} here later) = cond_either (Each P) (p x) (each-cons here (each_keep p later)) (each_keep p later)
+  each_keep p (each_cons {x = x} here later) = cond_either (Each P) (p x) (each_cons here (each_keep p later)) (each_keep p later)
 
 pub each_map : {A B : Type 0} {P : B → Type 0} (f : A → B) {xs : List A} → Each (λ (x : A). P (f x)) xs → Each P (map f xs)
 each_map f each_nil = each_nil
-each_map f (each-cons here later) = each-cons here (each_map f later)
+each_map f (each_cons here later) = each_cons here (each_map f later)
 
-pub each-flatMap : {A B : Type 0} {P : B → Type 0} (f : A → List B) {xs : List A}
+pub each_flat_map : {A B : Type 0} {P : B → Type 0} (f : A → List B) {xs : List A}
     → Each (λ (x : A). Each P (f x)) xs → Each P (flat_map f xs)
 unfolding flat_map
-each-flatMap f each_nil = each_nil
-each-flatMap f (each-cons here later) = each_append here (each-flatMap f later)
+each_flat_map f each_nil = each_nil
+each_flat_map f (each_cons here later) = each_append here (each_flat_map f later)
 
 -- each element passes a test, or each fails it
 module _ {A : Type 0} (p : A → Bool) where
-  pub all-each : (xs : List A) → all p xs ≡ true → Each (λ (x : A). p x ≡ true) xs
-  all-each [] e = each_nil
-  all-each (x ∷ xs) e = let t = (and-eq-true_iff (p x) (all p xs)).0 e in each-cons t.0 (all-each xs t.1)
+  pub all_each : (xs : List A) → all p xs ≡ true → Each (λ (x : A). p x ≡ true) xs
+  all_each [] e = each_nil
+  all_each (x ∷ xs) e = let t = (and-eq-true_iff (p x) (all p xs)).0 e in each_cons t.0 (all_each xs t.1)
 
   pub each_all : {xs : List A} → Each (λ (x : A). p x ≡ true) xs → all p xs ≡ true
   each_all each_nil = refl
-  each_all (each-cons here later) = rw here (each_all later)
+  each_all (each_cons here later) = rw here (each_all later)
 
   pub all_append : (xs ys : List A) → all p (xs ++ ys) ≡ all p xs && all p ys
   all_append [] ys = refl
@@ -78,31 +78,31 @@ module _ {A : Type 0} (p : A → Bool) where
 
   pub none_each : (xs : List A) → any p xs ≡ false → Each (λ (x : A). p x ≡ false) xs
   none_each [] e = each_nil
-  none_each (x ∷ xs) e = let t = or-false-parts (p x) (any p xs) e in each-cons t.0 (none_each xs t.1)
+  none_each (x ∷ xs) e = let t = or_false_parts (p x) (any p xs) e in each_cons t.0 (none_each xs t.1)
 
   pub each_none : {xs : List A} → Each (λ (x : A). p x ≡ false) xs → any p xs ≡ false
   each_none each_nil = refl
-  each_none (each-cons here later) = rw here (each_none later)
+  each_none (each_cons here later) = rw here (each_none later)
 
 -- the element at an index passes where all do
-pub all-at : {A : Type 0} (p : A → Bool) (xs : List A) (k : ℕ) (d : A) → all p xs ≡ true → k < length xs → p (get_or xs k d) ≡ true
-all-at p [] k d e h = absurd (omega arith)
-all-at p (x ∷ xs) zero d e h = ((and-eq-true_iff (p x) (all p xs)).0 e).0
-all-at p (x ∷ xs) (suc k) d e h = all-at p xs k d ((and-eq-true_iff (p x) (all p xs)).0 e).1 (omega arith)
+pub all_at : {A : Type 0} (p : A → Bool) (xs : List A) (k : ℕ) (d : A) → all p xs ≡ true → k < length xs → p (get_or xs k d) ≡ true
+all_at p [] k d e h = absurd (omega arith)
+all_at p (x ∷ xs) zero d e h = ((and-eq-true_iff (p x) (all p xs)).0 e).0
+all_at p (x ∷ xs) (suc k) d e h = all_at p xs k d ((and-eq-true_iff (p x) (all p xs)).0 e).1 (omega arith)
 
 -- where all that q keeps passes p, each element that passes q passes p
 pub all_keep : {A : Type 0} (p q : A → Bool) (xs : List A) → all p (keep q xs) ≡ true → Each (λ (x : A). q x ≡ true → p x ≡ true) xs
 all_keep p q [] e = each_nil
-all_keep p q (x ∷ xs) e = let h = go (q x) e in each-cons h.0 (all_keep p q xs h.1)
+all_keep p q (x ∷ xs) e = let h = go (q x) e in each_cons h.0 (all_keep p q xs h.1)
   where
     go : (b : Bool) → all p (cond b (x ∷ keep q xs) (keep q xs)) ≡ true → (b ≡ true → p x ≡ true) × (all p (keep q xs) ≡ true)
     go true h = let both = (and-eq-true_iff (p x) (all p (keep q xs))).0 h in (λ _. both.0, both.1)
     go false h = (λ c. absurd (false≢true c), h)
 
 -- and where each does so, all that q keeps passes p
-pub all-kept : {A : Type 0} (p q : A → Bool) {xs : List A} → Each (λ (x : A). q x ≡ true → p x ≡ true) xs → all p (keep q xs) ≡ true
-all-kept p q each_nil = refl
-all-kept p q (each-cons {x = x} {xs = xs} here later) = go (q x) here (all-kept p q later)
+pub all_kept : {A : Type 0} (p q : A → Bool) {xs : List A} → Each (λ (x : A). q x ≡ true → p x ≡ true) xs → all p (keep q xs) ≡ true
+all_kept p q each_nil = refl
+all_kept p q (each_cons {x = x} {xs = xs} here later) = go (q x) here (all_kept p q later)
   where
     go : (b : Bool) → (b ≡ true → p x ≡ true) → all p (keep q xs) ≡ true → all p (cond b (x ∷ keep q xs) (keep q xs)) ≡ true
     go true h rest = rw (h refl) rest
@@ -110,27 +110,27 @@ all-kept p q (each-cons {x = x} {xs = xs} here later) = go (q x) here (all-kept 
 
 -- keeping elements that all pass, or of which none does
 module _ {A : Type 0} (p : A → Bool) where
-  pub keep-every : {xs : List A} → Each (λ (x : A). p x ≡ true) xs → keep p xs ≡ xs
-  keep-every each_nil = refl
-  keep-every (each-cons {x = x} here later) = rw here (ap (◌∷◌ x) (keep-every later))
+  pub keep_every : {xs : List A} → Each (λ (x : A). p x ≡ true) xs → keep p xs ≡ xs
+  keep_every each_nil = refl
+  keep_every (each_cons {x = x} here later) = rw here (ap (◌∷◌ x) (keep_every later))
 
-  pub keep-none : {xs : List A} → Each (λ (x : A). p x ≡ false) xs → keep p xs ≡ []
-  keep-none each_nil = refl
-  keep-none (each-cons here later) = rw here (keep-none later)
+  pub keep_none : {xs : List A} → Each (λ (x : A). p x ≡ false) xs → keep p xs ≡ []
+  keep_none each_nil = refl
+  keep_none (each_cons here later) = rw here (keep_none later)
 
-pub length-upTo : (n : ℕ) → length (up_to n) ≡ n
-length-upTo zero = refl
-length-upTo (suc n) = omega (arith, length-append (up_to n) (n ∷ []), length-upTo n)
+pub length_up_to : (n : ℕ) → length (up_to n) ≡ n
+length_up_to zero = refl
+length_up_to (suc n) = omega (arith, length-append (up_to n) (n ∷ []), length_up_to n)
 
 module _ {P : ℕ → Type 0} where
-  pub each-upTo : (n : ℕ) → ((k : ℕ) → k < n → P k) → Each P (up_to n)
-  each-upTo zero h = each_nil
-  each-upTo (suc n) h = each_append (each-upTo n λ k l. h k (omega arith)) (each-cons (h n (omega arith)) each_nil)
+  pub each_up_to : (n : ℕ) → ((k : ℕ) → k < n → P k) → Each P (up_to n)
+  each_up_to zero h = each_nil
+  each_up_to (suc n) h = each_append (each_up_to n λ k l. h k (omega arith)) (each_cons (h n (omega arith)) each_nil)
 
-  pub upTo-each : (n : ℕ) → Each P (up_to n) → (k : ℕ) → k < n → P k
-  upTo-each zero e k l = absurd (omega arith)
-  upTo-each (suc n) e k l = go (eqb k n) refl (upTo-each n (each-front (up_to n) (n ∷ []) e) k)
+  pub up_to_each : (n : ℕ) → Each P (up_to n) → (k : ℕ) → k < n → P k
+  up_to_each zero e k l = absurd (omega arith)
+  up_to_each (suc n) e k l = go (eqb k n) refl (up_to_each n (each_front (up_to n) (n ∷ []) e) k)
     where
       go : (b : Bool) → eqb k n ≡ b → (k < n → P k) → P k
-      go true q before = rw (eqb-true k n q) (each-head (each_back (up_to n) (n ∷ []) e))
+      go true q before = rw (eqb-true k n q) (each_head (each_back (up_to n) (n ∷ []) e))
       go false q before = before (omega (arith, eqb-false k n q))

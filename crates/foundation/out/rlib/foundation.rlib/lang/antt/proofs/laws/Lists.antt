@@ -6,38 +6,38 @@ use mathlib.Core.Path.{◌≡◌, refl, sym, ap, ◌∙◌}
 use mathlib.Core.Bool.{Bool, true, false, cond, and-eq-true_iff}
 use mathlib.Core.List.{List, [], ◌∷◌, ◌++◌, map, flat_map, map-append}
 use lib.ListN.{length, take, get_or, length-append}
-use Rattle.foundation.specs.Lists.{Each, each-cons, keep, all, pairwise, up_to}
+use Rattle.foundation.specs.Lists.{Each, each_cons, keep, all, pairwise, up_to}
 
 module _ {A : Type 0} {P : A → Type 0} {x : A} {xs : List A} where
-  pub each-head : Each P (x ∷ xs) → P x
-  each-head (each-cons here later) = here
+  pub each_head : Each P (x ∷ xs) → P x
+  each_head (each_cons here later) = here
 
   pub each_tail : Each P (x ∷ xs) → Each P xs
-  each_tail (each-cons here later) = later
+  each_tail (each_cons here later) = later
 
 -- of a list whose every two elements are related: the first two are, and so is the list without its
 -- first, or without its second, element
 module _ {A : Type 0} (r : A → A → Bool) where
-  pub pairwise-tail : (x : A) (xs : List A) → pairwise r (x ∷ xs) ≡ true → pairwise r xs ≡ true
-  pairwise-tail x xs e = ((and-eq-true_iff (all (r x) xs) (pairwise r xs)).0 e).1
+  pub pairwise_tail : (x : A) (xs : List A) → pairwise r (x ∷ xs) ≡ true → pairwise r xs ≡ true
+  pairwise_tail x xs e = ((and-eq-true_iff (all (r x) xs) (pairwise r xs)).0 e).1
 
-  first-all : (x : A) (xs : List A) → pairwise r (x ∷ xs) ≡ true → all (r x) xs ≡ true
-  first-all x xs e = ((and-eq-true_iff (all (r x) xs) (pairwise r xs)).0 e).0
+  first_all : (x : A) (xs : List A) → pairwise r (x ∷ xs) ≡ true → all (r x) xs ≡ true
+  first_all x xs e = ((and-eq-true_iff (all (r x) xs) (pairwise r xs)).0 e).0
 
-  pub pairwise-first : (x y : A) (xs : List A) → pairwise r (x ∷ y ∷ xs) ≡ true → r x y ≡ true
-  pairwise-first x y xs e = ((and-eq-true_iff (r x y) (all (r x) xs)).0 (first-all x (y ∷ xs) e)).0
+  pub pairwise_first : (x y : A) (xs : List A) → pairwise r (x ∷ y ∷ xs) ≡ true → r x y ≡ true
+  pairwise_first x y xs e = ((and-eq-true_iff (r x y) (all (r x) xs)).0 (first_all x (y ∷ xs) e)).0
 
-  pub pairwise-skip : (x y : A) (xs : List A) → pairwise r (x ∷ y ∷ xs) ≡ true → pairwise r (x ∷ xs) ≡ true
-  pairwise-skip x y xs e =
+  pub pairwise_skip : (x y : A) (xs : List A) → pairwise r (x ∷ y ∷ xs) ≡ true → pairwise r (x ∷ xs) ≡ true
+  pairwise_skip x y xs e =
       (and-eq-true_iff (all (r x) xs) (pairwise r xs)).1 (
-        ((and-eq-true_iff (r x y) (all (r x) xs)).0 (first-all x (y ∷ xs) e)).1,
-        pairwise-tail y xs (pairwise-tail x (y ∷ xs) e),
+        ((and-eq-true_iff (r x y) (all (r x) xs)).0 (first_all x (y ∷ xs) e)).1,
+        pairwise_tail y xs (pairwise_tail x (y ∷ xs) e),
       )
 
 -- a list with an element is what stands before its last element, and that element
-pub last-split : {A : Type 0} (x : A) (xs : List A) (d : A) → x ∷ xs ≡ take (length xs) (x ∷ xs) ++ (get_or (x ∷ xs) (length xs) d ∷ [])
-last-split x [] d = refl
-last-split x (y ∷ xs) d = ap (◌∷◌ x) (last-split y xs d)
+pub last_split : {A : Type 0} (x : A) (xs : List A) (d : A) → x ∷ xs ≡ take (length xs) (x ∷ xs) ++ (get_or (x ∷ xs) (length xs) d ∷ [])
+last_split x [] d = refl
+last_split x (y ∷ xs) d = ap (◌∷◌ x) (last_split y xs d)
 
 -- keeping some of two lists in turn
 pub keep_append : {A : Type 0} (p : A → Bool) (xs ys : List A) → keep p (xs ++ ys) ≡ keep p xs ++ keep p ys
@@ -52,9 +52,9 @@ keep_append p (x ∷ xs) ys = go (p x) (keep_append p xs ys)
 -- of the images of a list, those that pass are the images of the elements that pass, where the
 -- tests agree
 module _ {A B : Type 0} (p : B → Bool) (q : A → Bool) (f : A → B) (agree : (x : A) → p (f x) ≡ q x) where
-  pub keep-map : (xs : List A) → keep p (map f xs) ≡ map f (keep q xs)
-  keep-map [] = refl
-  keep-map (x ∷ xs) = rw (agree x) (go (q x) (keep-map xs))
+  pub keep_map : (xs : List A) → keep p (map f xs) ≡ map f (keep q xs)
+  keep_map [] = refl
+  keep_map (x ∷ xs) = rw (agree x) (go (q x) (keep_map xs))
     where
       go : (b : Bool) → keep p (map f xs) ≡ map f (keep q xs)
           → cond b (f x ∷ keep p (map f xs)) (keep p (map f xs)) ≡ map f (cond b (x ∷ keep q xs) (keep q xs))
@@ -67,13 +67,13 @@ module _ {A B : Type 0} (p : B → Bool) (q : A → Bool) (f : A → B) (agree :
   all_map (x ∷ xs) = rw (agree x, all_map xs)
 
 -- lists in turn, each of the same length
-pub length-flatMap : {A B : Type 0} (f : A → List B) (k : ℕ) → ((x : A) → length (f x) ≡ k) → (xs : List A) → length (flat_map f xs) ≡ length xs * k
+pub length_flat_map : {A B : Type 0} (f : A → List B) (k : ℕ) → ((x : A) → length (f x) ≡ k) → (xs : List A) → length (flat_map f xs) ≡ length xs * k
 unfolding flat_map
-length-flatMap f k same [] = sym (zero-mul k)
-length-flatMap f k same (x ∷ xs) =
-    rw (length-append (f x) (flat_map f xs), same x, length-flatMap f k same xs, suc-mul) (add_comm k (length xs * k))
+length_flat_map f k same [] = sym (zero-mul k)
+length_flat_map f k same (x ∷ xs) =
+    rw (length-append (f x) (flat_map f xs), same x, length_flat_map f k same xs, suc-mul) (add_comm k (length xs * k))
 
 -- the numbers below n + 1: 0, and the numbers below n, each one more
-pub upTo-raised : (n : ℕ) → up_to (suc n) ≡ 0 ∷ map suc (up_to n)
-upTo-raised zero = refl
-upTo-raised (suc n) = ap (λ (l : List ℕ). l ++ (suc n ∷ [])) (upTo-raised n) ∙ ap (◌∷◌ 0) (sym (map-append suc (up_to n) (n ∷ [])))
+pub up_to_raised : (n : ℕ) → up_to (suc n) ≡ 0 ∷ map suc (up_to n)
+up_to_raised zero = refl
+up_to_raised (suc n) = ap (λ (l : List ℕ). l ++ (suc n ∷ [])) (up_to_raised n) ∙ ap (◌∷◌ 0) (sym (map-append suc (up_to n) (n ∷ [])))
