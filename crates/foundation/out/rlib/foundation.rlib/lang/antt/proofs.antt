@@ -1,2 +1,0 @@
-pub mod Examples
-pub mod laws
