@@ -11,12 +11,12 @@ use Rattle.event_log.specs.FrameIndex.{word_digits, word_start, word_cases, fram
 use Rattle.event_log.proofs.Opened.{opened}
 
 abbrev two : List ℕ
-two = bytes "00010001\n01_fA000201\n"
+two = bytes "00010001\n01FA000201\n"
 
 pub record StepExamples : Type 0 where
-  pub cases : cases_at (bytes "00010001\n01_fA0001\n") 9 ≡ 506
-  pub no_cases : cases_at (bytes "00010001\n01_f") 9 ≡ 0
-  pub end : trace_end (bytes "00010001\n01_fA0001\n") 13 ≡ 17
+  pub cases : cases_at (bytes "00010001\n01FA0001\n") 9 ≡ 506
+  pub no_cases : cases_at (bytes "00010001\n01F") 9 ≡ 0
+  pub end : trace_end (bytes "00010001\n01FA0001\n") 13 ≡ 17
   pub no_end : trace_end (bytes "00010") 4 ≡ 6
   -- four digits from byte 4, one case; six from byte 13, 506 cases
   pub index : frame_index 0 (frames_of two) ≡ (4 + 512 * 4 + 4294967296 * 1) ∷ (6 + 512 * 13 + 4294967296 * 506) ∷ []

@@ -30,7 +30,7 @@ figure1_frames =
     ∷ []
 
 abbrev pub figure1_log : List ℕ
-figure1_log = bytes "001F0002030401\n001_b0003020401\n00170002030501\n00130003020501\n"
+figure1_log = bytes "001F0002030401\n001B0003020401\n00170002030501\n00130003020501\n"
 
 -- a frame with one case and as many events between its first and its last
 abbrev with_inside : List ℕ → Frame
@@ -42,7 +42,7 @@ pub record LogExamples : Type 0 where
   pub last_line : lines (bytes "0\n1") ≡ record { bytes = bytes "0"; ended = true } ∷ record { bytes = bytes "1"; ended = false } ∷ []
   pub built : WrittenLog 2 (frame 1 (0 ∷ 1 ∷ []) ∷ []) (bytes "00010001\n")
   pub accepted : checked 6 figure1_log ≡ Accepted 4 100
-  pub repeated : checked 2 (bytes "FFFF0001\n_fFFF0001\n") ≡ Accepted 2 131070
+  pub repeated : checked 2 (bytes "FFFF0001\nFFFF0001\n") ≡ Accepted 2 131070
   pub longest : checked 3 (write_frame (with_inside (replicate 252 2))) ≡ Accepted 1 1
 
 pub record FaultExamples : Type 0 where

@@ -50,7 +50,7 @@ pub record TraceExamples : Type 0 where
 
 -- frames of Figure 3's log
 abbrev figure3_log : List ℕ
-figure3_log = bytes "0031000301\n001_f0002030401\n000_c00020203040401\n0005000202020304040401\n"
+figure3_log = bytes "0031000301\n001F0002030401\n000C00020203040401\n0005000202020304040401\n"
 
 abbrev pub counts : ℕ → ℕ → ℕ → ℕ → CaseCounts
 counts fitting underfed overfed both = record { fitting = fitting; underfed = underfed; overfed = overfed; both = both }

@@ -22,8 +22,8 @@ state =
 pub record ProgramExamples : Type 0 where
   pub given : capacity ≡ record { rejected = 1024; found = 4096; budget = 1000000 }
   -- reduced after end 0, and as found otherwise
-  pub completed : report (going state) ≡ bytes "00010001\n00020002\n00000000_fF00001000\n"
-  pub stopped_early : report (stopped 1 state) ≡ bytes "00010001\n00020002\n00030003\n01000000_fF00001000\n"
+  pub completed : report (going state) ≡ bytes "00010001\n00020002\n00000000FF00001000\n"
+  pub stopped_early : report (stopped 1 state) ≡ bytes "00010001\n00020002\n00030003\n01000000FF00001000\n"
   pub oversize : placelist (replicate 65537 48) ≡ bytes "FF0500000000\n"
   pub largest : placelist (replicate 65536 48) ≡ bytes "FF0100000000\n"
   pub no_input : placelist [] ≡ bytes "FF0100000000\n"

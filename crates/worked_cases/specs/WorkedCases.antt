@@ -46,7 +46,7 @@ single = bytes "0001000201\n"
 
 -- M7: the source's first log, and the case counts of the row's place
 abbrev pub variants : List ℕ
-variants = bytes "001F0002030401\n001_b0003020401\n00170002030501\n00130003020501\n"
+variants = bytes "001F0002030401\n001B0003020401\n00170002030501\n00130003020501\n"
 
 abbrev pub variant_counts : CaseCounts
 variant_counts = record { fitting = 58; underfed = 0; overfed = 42; both = 0 }
@@ -102,4 +102,4 @@ pub record WorkedCases : Type 0 where
   pub m11 : M11
   pub m12 : M12
   pub program :
-      placelist (bytes "0303010000\n00010001\n") ≡ bytes "00010002\n00050002\n00040004\n000000000_c0000000_f\n"
+      placelist (bytes "0303010000\n00010001\n") ≡ bytes "00010002\n00050002\n00040004\n000000000C0000000F\n"

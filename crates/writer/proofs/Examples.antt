@@ -16,7 +16,7 @@ words = 0x00020001 ∷ 0x00A0FFFE ∷ []
 
 pub record WritingExamples : Type 0 where
   pub answers : written words 18 ≡ Bytes 18
-  pub lines : written_after words (replicate 20 33) ≡ bytes "00010002\n_fFFE00_a0\n!!"
+  pub lines : written_after words (replicate 20 33) ≡ bytes "00010002\nFFFE00A0\n!!"
   pub none : written [] 0 ≡ Bytes 0
   pub too_short : written words 17 ≡ Refused BufferTooSmall
   pub place_before_room : written (0x00020001 ∷ 0x00A00000 ∷ []) 0 ≡ Refused (InvalidPlace 1)
