@@ -4,8 +4,8 @@
 #![tactic(auto)]
 
 use crate::input::{Input, read_input};
-use libc::{STDERR_FILENO, STDOUT_FILENO};
 use reporter::{MOST_INPUT, MOST_OUTPUT, report_places};
+use std::io::Print;
 use writer::Written;
 
 mod input; // input.rt: standard input, read to its end
@@ -14,15 +14,14 @@ mod input; // input.rt: standard input, read to its end
 const INPUT_BYTES: usize = MOST_INPUT + 1;
 
 // Writes what placelist writes for an input.
-fn write_report(input: &[u8]) {
+fn write_report(rt: &HostRuntime, input: &[u8]) {
     let mut output = [0u8; MOST_OUTPUT];
     match report_places(input, &mut output) {
         Written::Bytes(count) => {
-            if !io::write_all(STDOUT_FILENO, &output[..count]) {
-                io::write_all(
-                    STDERR_FILENO,
-                    b"placelist: standard output could not be written\n",
-                );
+            if rt.write_all(&output[..count]).is_err() {
+                let _ = rt
+                    .stderr()
+                    .write_all(b"placelist: standard output could not be written\n");
             }
         }
         // never so: the buffer takes the longest output
@@ -30,15 +29,14 @@ fn write_report(input: &[u8]) {
     }
 }
 
-fn main() {
+fn main(rt: HostRuntime) {
     let mut bytes = [0u8; INPUT_BYTES];
-    match read_input(&mut bytes) {
-        Input::Bytes(count) => write_report(&bytes[..count]),
+    match read_input(&mut rt.stdin(), &mut bytes) {
+        Input::Bytes(count) => write_report(&rt, &bytes[..count]),
         Input::Failed => {
-            io::write_all(
-                STDERR_FILENO,
-                b"placelist: standard input could not be read\n",
-            );
+            let _ = rt
+                .stderr()
+                .write_all(b"placelist: standard input could not be read\n");
         }
     }
 }
