@@ -5,7 +5,6 @@ use Rattle.foundation.specs.Lists.{all}
 use Rattle.hex_digits.specs.declared.Digit.{Digit}
 use Rattle.hex_digits.specs.declared.Digit.TheVariants.{Value, NonDigit}
 use Rattle.hex_digits.specs.declared.Number.{Number}
-use Rattle.hex_digits.specs.declared.Number.TheVariants as Number
 
 -- the bytes 0 to 9 (48 to 57) have the values 0 to 9, and A to F (65 to 70) the values 10 to 15
 unfoldable pub digit_of : ℕ → Digit

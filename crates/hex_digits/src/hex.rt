@@ -5,6 +5,7 @@ ghost use Rattle.hex_digits.specs.Digits.{digit_of, most_digits, number_in, digi
 use crate::{Digit, Number};
 
 // What a byte is as a digit.
+#[tactic(auto, unfolding(crate::specs::Digits::digit_of))]
 pub fn classify(byte: u8) -> Digit
     ensures { result ≡ digit_of byte }
 {
@@ -36,6 +37,7 @@ pub fn read_hex(digits: &[u8]) -> Number
 
 // The byte that writes a value below 16, with no branch: from 10 on it stands 7 further, where the
 // letters are.
+#[tactic(auto, unfolding(crate::specs::Digits::digit_byte))]
 fn digit_byte(value: u8) -> u8
     requires { value < 16 }
     ensures { result ≡ digit_byte value }
