@@ -2,13 +2,23 @@
 ghost use Rattle.std.specs.Prelude.{◌≡◌, ◌+◌, min, length, drop};
 ghost use Rattle.case_notation.specs.Fields.{part_before, part_after, rest_after, word_at};
 
-use bytes::scan::find;
+// Where the first such byte stands, or the length of a text that has none.
+fn find(text: &[u8], byte: u8) -> usize
+    ensures { result ≡ length (part_before byte text.now) }
+{
+    for (at, x) in text.iter().enumerate() {
+        if *x == byte {
+            return at;
+        }
+    }
+    text.len()
+}
 
 // What stands before the first such byte: all of a text that has none.
 pub fn before(text: &[u8], byte: u8) -> &[u8]
     ensures { result.now ≡ part_before byte text.now }
 {
-    let end = find(text, 0, text.len(), byte);
+    let end = find(text, byte);
     &text[0..end]
 }
 
@@ -16,7 +26,7 @@ pub fn before(text: &[u8], byte: u8) -> &[u8]
 pub fn after(text: &[u8], byte: u8) -> &[u8]
     ensures { result.now ≡ part_after byte text.now }
 {
-    let end = find(text, 0, text.len(), byte);
+    let end = find(text, byte);
     if end < text.len() {
         &text[end + 1..]
     } else {
@@ -49,6 +59,7 @@ pub fn rest(line: &[u8], words: usize) -> &[u8]
 }
 
 // The word that follows so many.
+#[tactic(auto, unfolding(crate::specs::Fields::word_at))]
 pub fn word(line: &[u8], index: usize) -> &[u8]
     ensures { result.now ≡ word_at index line.now }
 {

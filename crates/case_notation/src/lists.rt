@@ -8,6 +8,7 @@ use crate::fields::{after, before, next};
 use crate::numbers::{NONE, number};
 
 // The word that eight digits write, or 0.
+#[tactic(auto, unfolding(crate::specs::WordLists::word_of))]
 fn word_of(digits: &[u8]) -> u64
     ensures { result ≡ word_of digits.now }
 {

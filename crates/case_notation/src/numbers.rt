@@ -48,6 +48,7 @@ pub fn number(digits: &[u8], base: u8) -> u64
 }
 
 // The decimal number that a word of a line is.
+#[tactic(auto, unfolding(crate::specs::Numbers::number_at))]
 pub fn argument(line: &[u8], index: usize) -> u64
     ensures { result ≡ number_at index line.now }
 {

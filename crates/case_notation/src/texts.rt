@@ -7,6 +7,7 @@ use crate::fields::{after, before, next};
 use crate::numbers::number;
 
 // The byte that a byte of a text stands for.
+#[tactic(auto, unfolding(crate::specs::Texts::byte_meant))]
 fn meant(byte: u8) -> u8
     ensures { result ≡ byte_meant byte }
 {

@@ -5,12 +5,12 @@ use Prim.Native.Nat.{ℕ, suc, ◌+◌, ◌-◌, ◌≤◌, ◌<◌, min}
 use native.Mathlib.Omega.{arith}
 use mathlib.Core.Path.{◌≡◌, refl, sym, ap, ◌∙◌}
 use mathlib.Core.List.{List, [], ◌∷◌}
-use borrow.Author.Tests.{leb-true, leb-false}
+use borrow.Author.Tests.{leb-true, leb-false, eq-eqb, ne_eqb}
+use native.Mathlib.Numerals.{add-one}
 use lib.Dec.{eqb, leb}
 use lib.ListN.{length, get_or, take, drop, length-drop, drop_of_length-le}
 use lib.Seq.{take_all, drop-drop, drop-cons}
 use Rattle.foundation.proofs.laws.Booleans.{by_test}
-use Rattle.bytes.specs.Bytes.{index_of, index_after, slice}
 use Rattle.case_notation.specs.Fields.{part_before, part_after, rest_after, in_front, words_of}
 
 -- a part to the end
@@ -18,11 +18,6 @@ pub tail_part : (text : List ℕ) (n : ℕ) → take (length text - n) (drop n t
 tail_part text n = take_all (length text - n) (drop n text) (omega (arith, length-drop n text))
 
 module _ (byte : ℕ) where
-  index_before : (text : List ℕ) → index_of byte text ≡ length (part_before byte text)
-  unfolding index_of index_after part_before
-  index_before [] = refl
-  index_before (x ∷ xs) = by_test (eqb x byte) (λ t. rw t) (λ f. rw f (ap suc (index_before xs)))
-
   take_before : (text : List ℕ) → take (length (part_before byte text)) text ≡ part_before byte text
   unfolding part_before
   take_before [] = refl
@@ -38,20 +33,37 @@ module _ (byte : ℕ) where
   before_within [] = omega arith
   before_within (x ∷ xs) = by_test (eqb x byte) (λ t. rw t (omega arith)) (λ f. rw f (omega (arith, before_within xs)))
 
-  module _ (text : List ℕ) (end : ℕ) (found : end ≡ 0 + index_of byte (slice 0 (length text) text)) where
-    -- where the search ends
-    pub end_found : end ≡ length (part_before byte text)
-    unfolding slice
-    end_found = omega (arith, found ∙ ap (λ (l : List ℕ). 0 + index_of byte l) (take_all (length text) text (omega arith)), index_before text)
+  -- the search, byte by byte: the part goes on after another byte, stops at the byte, and ends with
+  -- the text
+  module _ (text : List ℕ) (at : ℕ) (so_far : at + length (part_before byte (drop at text)) ≡ length (part_before byte text)) where
+    front : at < length text → drop at text ≡ get_or text at 0 ∷ drop (at + 1) text
+    front h = rw (add-one at, drop-cons text at 0 h)
 
+    pub part_goes_on : at < length text → (get_or text at 0 ≡ byte → ⊥) → at + 1 + length (part_before byte (drop (at + 1) text)) ≡ length (part_before byte text)
+    unfolding part_before
+    part_goes_on h other =
+        let here = ap (λ (l : List ℕ). length (part_before byte l)) (front h) in
+        omega (arith, so_far, rw (ne_eqb (get_or text at 0) byte other) at here)
+
+    pub part_stops : at < length text → get_or text at 0 ≡ byte → at ≡ length (part_before byte text)
+    unfolding part_before
+    part_stops h it =
+        let here = ap (λ (l : List ℕ). length (part_before byte l)) (front h) in
+        omega (arith, so_far, rw (eq-eqb (get_or text at 0) byte it) at here)
+
+    pub part_ends : length text ≤ at → at ≡ length (part_before byte text)
+    unfolding part_before
+    part_ends h = omega (arith, so_far, ap (λ (l : List ℕ). length (part_before byte l)) (drop_of_length-le text h))
+
+  module _ (text : List ℕ) (end : ℕ) (found : end ≡ length (part_before byte text)) where
     pub found_before : take (end - 0) text ≡ part_before byte text
     found_before =
-        let same : end - 0 ≡ length (part_before byte text) = omega (arith, end_found) in
+        let same : end - 0 ≡ length (part_before byte text) = omega (arith, found) in
         ap (λ (n : ℕ). take n text) same ∙ take_before text
 
     pub found_after : take (length text - (end + 1)) (drop (end + 1) text) ≡ part_after byte text
     found_after =
-        let same : end + 1 ≡ suc (length (part_before byte text)) = omega (arith, end_found) in
+        let same : end + 1 ≡ suc (length (part_before byte text)) = omega (arith, found) in
         tail_part text (end + 1) ∙ ap (λ (n : ℕ). drop n text) same ∙ drop_after text
 
     -- or does not find it
@@ -62,7 +74,7 @@ module _ (byte : ℕ) where
         ∙ drop_after text
       where
         past : length text ≤ suc (length (part_before byte text))
-        past = omega (arith, end_found)
+        past = omega (arith, found)
 
 drop_min : (text : List ℕ) (n : ℕ) → drop (min (length text) n) text ≡ drop n text
 drop_min text n =
