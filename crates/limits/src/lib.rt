@@ -7,7 +7,7 @@ ghost use Rattle.limits.specs.Refusals.{number, value};
 ghost use Rattle.limits.specs.Settings.{bound_in_range, size_in_range, threshold_in_range, settings_in_range};
 
 // A, mi, mo and T of document 01. Their ranges are in specs/Settings.antt.
-#[derive(Drop)]
+#[derive(Clone, Copy, Drop)]
 pub struct Settings {
     // A, the activity bound: codes run from 0 to A - 1
     pub activities: u8,
@@ -20,7 +20,7 @@ pub struct Settings {
 }
 
 // Why a call is refused. Document 01's number and value of each are in specs/Refusals.antt.
-#[derive(Drop)]
+#[derive(Clone, Copy, Drop)]
 pub enum Refusal {
     InvalidSetting,
     MalformedFrame { line: usize },

@@ -12,7 +12,7 @@ pub const OUTPUT_UNIT: u32 = 65536;
 
 // A place (I, O): its input and its output activities, each as a set, the sum of 2 to the power a
 // over its codes a.
-#[derive(Drop)]
+#[derive(Clone, Copy, Drop)]
 pub struct Place {
     pub inputs: u16,
     pub outputs: u16,
