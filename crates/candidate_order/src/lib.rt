@@ -11,6 +11,7 @@ use places::Place;
 pub mod set; // set.rt: sets of activities
 
 // Whether a place is at least as light as another (Definition 10).
+#[tactic(auto, unfolding(places::specs::Places::lighter))]
 pub fn is_lighter(place: Place, than: Place) -> bool
     ensures { result ≡ lighter place than }
 {

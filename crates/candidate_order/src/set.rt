@@ -7,6 +7,7 @@ ghost use Rattle.places.specs.Candidates.{candidate_set, sets};
 ghost use Rattle.places.specs.Succession.{set_after, set_past};
 
 // Whether every code of a set is one of another.
+#[tactic(auto, using(candidate_order_spec::proofs::laws::BitOperations::shared_is_within))]
 pub fn is_within(set: u16, of: u16) -> bool
     ensures { result ≡ within set of }
 {
@@ -14,6 +15,7 @@ pub fn is_within(set: u16, of: u16) -> bool
 }
 
 // How many codes a set has.
+#[tactic(auto, using(candidate_order_spec::proofs::laws::BitOperations::ones_size))]
 pub fn size_of(set: u16) -> u32
     ensures { result ≡ size set }
 {
@@ -21,6 +23,7 @@ pub fn size_of(set: u16) -> u32
 }
 
 // The highest code of a set that has one.
+#[tactic(auto, using(candidate_order_spec::proofs::laws::Highest::highest_code), unfolding(candidate_order_spec::proofs::laws::Highest::highest))]
 fn highest_of(set: u16) -> u32
     requires { 0 < set }
     ensures { (result < most_activities) × (2 ^ result ≤ set) × (set < 2 ^ suc result) }
