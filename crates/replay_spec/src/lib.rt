@@ -16,7 +16,7 @@ pub enum Replayed {
 }
 
 // The four case counts of a place over a log: fitting, underfed only, overfed only, and both.
-#[derive(Drop)]
+#[derive(Clone, Copy, Drop)]
 pub struct CaseCounts {
     pub fitting: u64,
     pub underfed: u64,

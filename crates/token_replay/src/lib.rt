@@ -20,7 +20,7 @@ pub struct Tokens {
 }
 
 // The two sets of a place as sets of digits in place of codes.
-#[derive(Drop)]
+#[derive(Clone, Copy, Drop)]
 pub struct DigitSets {
     pub inputs: u32,
     pub outputs: u32,
