@@ -44,6 +44,7 @@ pub enum Judged {
 }
 
 // The number of a verdict, 0 of fitting.
+#[tactic(auto, unfolding(crate::specs::Judgement::mark))]
 pub fn mark_of(verdict: Verdict) -> u8
     ensures { result ≡ mark verdict }
 {
