@@ -5,9 +5,7 @@ use Rattle.std.specs.Prelude.{ℕ, suc, ◌+◌, ◌%◌, Bool, true, false, con
 use Rattle.foundation.specs.Lists.{all}
 use Rattle.limits.specs.Refusals.{answer}
 use Rattle.log_lines.specs.declared.Activities.{Activities}
-use Rattle.log_lines.specs.declared.Activities.TheVariants as Activities
 use Rattle.log_lines.specs.declared.Count.{Count}
-use Rattle.log_lines.specs.declared.Count.TheVariants as Count
 use Rattle.log_lines.specs.declared.LineChecked.{LineChecked}
 use Rattle.log_lines.specs.declared.LineChecked.TheVariants.{Sound, Faulty}
 use Rattle.log_lines.specs.declared.Phase.{Phase}

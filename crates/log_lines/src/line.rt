@@ -34,6 +34,7 @@ pub fn count_at(text: &[u8], from: usize) -> Count
 }
 
 // Where a trace stands after one event more.
+#[tactic(auto, unfolding(crate::specs::Reading::next_phase))]
 pub fn advance(phase: Phase, code: u64) -> Phase
     ensures { result ≡ next_phase phase code }
 {
