@@ -7,12 +7,14 @@ use case_notation::fields::{before, rest};
 use case_notation::texts::unfold;
 use case_output::{end_line, not_a_case, put};
 use check::same;
+use std::io;
+use std::io::Write;
 
 // The room for the text of a line. The program refuses inputs of more than 65,536 bytes, and a text
 // of one byte more has room.
 const TEXT_ROOM: usize = 65538;
 
-#[derive(Drop)]
+#[derive(Clone, Copy, Drop)]
 pub enum Call {
     Check,
     Replay,
@@ -78,50 +80,52 @@ fn leading_words(call: Call) -> usize
 }
 
 // Makes the call of a line, with the text that stands at its end.
-fn run_call(call: Call, line: &[u8], text: &[u8]) {
+fn run_call<W: Write>(out: &mut W, call: Call, line: &[u8], text: &[u8]) -> io::Result<()> {
     match call {
-        Call::Check => logs::check(line, text),
-        Call::Replay => logs::replay(line, text),
-        Call::Judge => logs::judge(line, text),
-        Call::Search => listings::search(line, text),
-        Call::List => listings::list(line, text),
-        Call::Twice => listings::twice(line, text),
-        Call::Reduce => rewrites::reduce_list(line),
-        Call::Write => rewrites::write(line),
-        Call::Report => rewrites::report(line, text),
-        Call::Unknown => not_a_case(),
+        Call::Check => logs::check(out, line, text),
+        Call::Replay => logs::replay(out, line, text),
+        Call::Judge => logs::judge(out, line, text),
+        Call::Search => listings::search(out, line, text),
+        Call::List => listings::list(out, line, text),
+        Call::Twice => listings::twice(out, line, text),
+        Call::Reduce => rewrites::reduce_list(out, line),
+        Call::Write => rewrites::write(out, line),
+        Call::Report => rewrites::report(out, line, text),
+        Call::Unknown => not_a_case(out),
     }
 }
 
-fn run_case(line: &[u8]) {
+fn run_case<W: Write>(out: &mut W, line: &[u8]) -> io::Result<()> {
     let call = call_of(before(line, b' '));
     let mut text = [0u8; TEXT_ROOM];
     let count = unfold(rest(line, leading_words(call)), &mut text);
     if count < TEXT_ROOM {
-        run_call(call, line, &text[0..count]);
+        run_call(out, call, line, &text[0..count])
     } else {
-        not_a_case();
+        not_a_case(out)
     }
 }
 
 // Copies a line, and runs its case where it has one.
-fn run_line(line: &[u8]) {
-    put(line);
-    end_line();
+fn run_line<W: Write>(out: &mut W, line: &[u8]) -> io::Result<()> {
+    put(out, line)?;
+    end_line(out)?;
     if line.len() == 0 {
-        return;
+        return Ok(());
     }
     if line[0] != b'#' {
-        run_case(line);
+        run_case(out, line)?;
     }
+    Ok(())
 }
 
 // Runs the lines of a table, one after the other.
-pub fn run_lines(table: &[u8]) {
+pub fn run_lines<W: Write>(out: &mut W, table: &[u8]) -> io::Result<()> {
     let mut at = 0;
     while at < table.len() {
         let line = before(&table[at..], b'\n');
-        run_line(line);
+        run_line(out, line)?;
         at += line.len() + 1;
     }
+    Ok(())
 }

@@ -13,6 +13,8 @@ use discovery::discover;
 use discovery_spec::{Discovered, Run};
 use limits::Settings;
 use listing::{Listing, list_places};
+use std::io;
+use std::io::Write;
 
 // The words of a cache, of the list of a search, and of the lists of a listing.
 const CACHE_WORDS: usize = 640;
@@ -54,38 +56,42 @@ fn settings_in(line: &[u8]) -> Settings
     }
 }
 
-fn run_line(run: Run) {
-    begin_line();
-    field(b"end", run.end);
-    field(b"found", run.found as u64);
-    field(b"rejected", run.rejected as u64);
-    field(b"replays", run.replays as u64);
-    field(b"visits", run.visits as u64);
-    end_line();
+fn run_line<W: Write>(out: &mut W, run: Run) -> io::Result<()> {
+    begin_line(out)?;
+    field(out, b"end", run.end)?;
+    field(out, b"found", run.found as u64)?;
+    field(out, b"rejected", run.rejected as u64)?;
+    field(out, b"replays", run.replays as u64)?;
+    field(out, b"visits", run.visits as u64)?;
+    end_line(out)
 }
 
-fn discovered(answer: Discovered) {
+fn discovered<W: Write>(out: &mut W, answer: Discovered) -> io::Result<()> {
     match answer {
-        Discovered::Ran(run) => run_line(run),
-        Discovered::Refused(why) => refusal(why),
+        Discovered::Ran(run) => run_line(out, run),
+        Discovered::Refused(why) => refusal(out, why),
     }
 }
 
 // The answer and the buffers of a search.
-fn search_lines(answer: Discovered, rejected: &[u64; CACHE_WORDS], found: &[u32; SEARCH_WORDS]) {
-    discovered(answer);
-    found_line(found);
-    cache_line(rejected);
+fn search_lines<W: Write>(
+    out: &mut W,
+    answer: Discovered,
+    rejected: &[u64; CACHE_WORDS],
+    found: &[u32; SEARCH_WORDS],
+) -> io::Result<()> {
+    discovered(out, answer)?;
+    found_line(out, found)?;
+    cache_line(out, rejected)
 }
 
 // search A mi mo T cache list budget text
-pub fn search(line: &[u8], text: &[u8]) {
+pub fn search<W: Write>(out: &mut W, line: &[u8], text: &[u8]) -> io::Result<()> {
     let cache = argument(line, 5) as usize;
     let list = argument(line, 6) as usize;
     let budget = argument(line, 7);
     if CACHE_WORDS < cache || SEARCH_WORDS < list || MOST_BUDGET < budget || !settings_fit(line) {
-        not_a_case();
-        return;
+        return not_a_case(out);
     }
     let mut rejected = [CACHE_FILL; CACHE_WORDS];
     let mut found = [LIST_FILL; SEARCH_WORDS];
@@ -96,35 +102,36 @@ pub fn search(line: &[u8], text: &[u8]) {
         &mut rejected[0..cache],
         &mut found[0..list],
     );
-    search_lines(answer, &rejected, &found);
+    search_lines(out, answer, &rejected, &found)
 }
 
-fn listed(answer: Listing) {
+fn listed<W: Write>(out: &mut W, answer: Listing) -> io::Result<()> {
     match answer {
-        Listing::Refused(why) => refusal(why),
-        Listing::Incomplete(run) => run_line(run),
+        Listing::Refused(why) => refusal(out, why),
+        Listing::Incomplete(run) => run_line(out, run),
         Listing::Complete { run, reduced: kept } => {
-            run_line(run);
-            reduced(kept);
+            run_line(out, run)?;
+            reduced(out, kept)
         }
     }
 }
 
 // The answer and the buffers of one listing.
-fn listing_lines(
+fn listing_lines<W: Write>(
+    out: &mut W,
     answer: Listing,
     rejected: &[u64; CACHE_WORDS],
     found: &[u32; LIST_WORDS],
     kept: &[u32; LIST_WORDS],
-) {
-    listed(answer);
-    found_line(found);
-    cache_line(rejected);
-    reduced_line(kept);
+) -> io::Result<()> {
+    listed(out, answer)?;
+    found_line(out, found)?;
+    cache_line(out, rejected)?;
+    reduced_line(out, kept)
 }
 
 // list A mi mo T cache list reduced budget text
-pub fn list(line: &[u8], text: &[u8]) {
+pub fn list<W: Write>(out: &mut W, line: &[u8], text: &[u8]) -> io::Result<()> {
     let cache = argument(line, 5) as usize;
     let list = argument(line, 6) as usize;
     let room = argument(line, 7) as usize;
@@ -135,8 +142,7 @@ pub fn list(line: &[u8], text: &[u8]) {
         || MOST_BUDGET < budget
         || !settings_fit(line)
     {
-        not_a_case();
-        return;
+        return not_a_case(out);
     }
     let mut rejected = [CACHE_FILL; CACHE_WORDS];
     let mut found = [LIST_FILL; LIST_WORDS];
@@ -149,7 +155,7 @@ pub fn list(line: &[u8], text: &[u8]) {
         &mut found[0..list],
         &mut kept[0..room],
     );
-    listing_lines(answer, &rejected, &found, &kept);
+    listing_lines(out, answer, &rejected, &found, &kept)
 }
 
 // What a listing is lent: how much of each buffer, and its budget.
@@ -174,7 +180,13 @@ fn resources_at(line: &[u8], index: usize) -> Resources
 }
 
 // Both listings, in the fronts of their buffers.
-fn list_both(settings: Settings, text: &[u8], first: Resources, second: Resources)
+fn list_both<W: Write>(
+    out: &mut W,
+    settings: Settings,
+    text: &[u8],
+    first: Resources,
+    second: Resources,
+) -> io::Result<()>
     requires cache_bound { (first.cache ≤ 640) × (first.list ≤ 320) × (first.reduced ≤ 320) × (first.budget ≤ 4294967295) }
     requires cache_bound_2 { (second.cache ≤ 640) × (second.list ≤ 320) × (second.reduced ≤ 320) × (second.budget ≤ 4294967295) }
 {
@@ -204,12 +216,12 @@ fn list_both(settings: Settings, text: &[u8], first: Resources, second: Resource
     );
     let answer1 = both.first;
     let answer2 = both.second;
-    listing_lines(answer1, &rejected1, &found1, &kept1);
-    listing_lines(answer2, &rejected2, &found2, &kept2);
+    listing_lines(out, answer1, &rejected1, &found1, &kept1)?;
+    listing_lines(out, answer2, &rejected2, &found2, &kept2)
 }
 
 // twice A mi mo T cache list reduced budget cache list reduced budget text
-pub fn twice(line: &[u8], text: &[u8]) {
+pub fn twice<W: Write>(out: &mut W, line: &[u8], text: &[u8]) -> io::Result<()> {
     let first = resources_at(line, 5);
     let second = resources_at(line, 9);
     if CACHE_WORDS < first.cache
@@ -217,20 +229,17 @@ pub fn twice(line: &[u8], text: &[u8]) {
         || LIST_WORDS < first.reduced
         || MOST_BUDGET < first.budget
     {
-        not_a_case();
-        return;
+        return not_a_case(out);
     }
     if CACHE_WORDS < second.cache
         || LIST_WORDS < second.list
         || LIST_WORDS < second.reduced
         || MOST_BUDGET < second.budget
     {
-        not_a_case();
-        return;
+        return not_a_case(out);
     }
     if !settings_fit(line) {
-        not_a_case();
-        return;
+        return not_a_case(out);
     }
-    list_both(settings_in(line), text, first, second);
+    list_both(out, settings_in(line), text, first, second)
 }

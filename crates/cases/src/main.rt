@@ -31,15 +31,37 @@
 // and its answer says so.
 #![tactic(auto)]
 
-use libc::STDIN_FILENO;
+ghost use Rattle.std.specs.Prelude.{◌≤◌, length, IfOk};
+
+use std::io;
+use std::io::{BufWriter, Read, Write};
 
 mod calls; // calls.rt: the calls by name, and a line of the table
 mod listings; // listings.rt: the calls that search
 mod logs; // logs.rt: the calls that answer numbers alone
 mod rewrites; // rewrites.rt: the calls that write a list again, or as text
 
-fn main() {
+// Reads into a buffer from its front, until the input ends or the buffer is full, and answers how
+// much it read. A read may give less than there is, so the next goes on behind it.
+fn read_full<R: Read>(reader: &mut R, buffer: &mut [u8]) -> io::Result<usize>
+    ensures { IfOk result (λ count. count ≤ length buffer.new) }
+{
+    let mut count = 0;
+    while count < buffer.len() {
+        let more = reader.read(&mut buffer[count..])?;
+        if more == 0 {
+            return Ok(count);
+        }
+        count += more;
+    }
+    Ok(count)
+}
+
+// A read, a write or an allocation that fails ends the program with its error.
+fn main(rt: HostRuntime) -> io::Result<()> {
     let mut table = [0u8; 131072];
-    let count = io::read_full(STDIN_FILENO, &mut table);
-    calls::run_lines(&table[..count]);
+    let count = read_full(&mut rt.stdin(), &mut table)?;
+    let mut out = BufWriter::new(rt.alloc(), io::writer(&rt))?;
+    calls::run_lines(&mut out, &table[..count])?;
+    out.flush()
 }
