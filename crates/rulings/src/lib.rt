@@ -18,6 +18,7 @@ pub enum Ruling {
 }
 
 // The place of a word.
+#[tactic(auto, unfolding(discovery_spec::specs::Rejected::place_in))]
 fn place_in(word: u64) -> Place
     ensures { result ≡ place_in word }
 {
@@ -25,6 +26,7 @@ fn place_in(word: u64) -> Place
 }
 
 // Whether a word is marked as underfed, alone or with overfed.
+#[tactic(auto, unfolding(discovery_spec::specs::Rejected::mark_in))]
 fn marked_underfed(word: u64) -> bool
     ensures { result ≡ (eqb (mark_in word) 1 || eqb (mark_in word) 3) }
 {
@@ -33,6 +35,7 @@ fn marked_underfed(word: u64) -> bool
 }
 
 // Whether a word is marked as overfed, alone or with underfed.
+#[tactic(auto, unfolding(discovery_spec::specs::Rejected::mark_in))]
 fn marked_overfed(word: u64) -> bool
     ensures { result ≡ (eqb (mark_in word) 2 || eqb (mark_in word) 3) }
 {
@@ -41,6 +44,7 @@ fn marked_overfed(word: u64) -> bool
 }
 
 // Whether a word rules a candidate underfed, as one that is at least as light as its place.
+#[tactic(auto, unfolding(discovery_spec::specs::Rejected::rules_underfed))]
 fn rules_underfed(word: u64, candidate: Place) -> bool
     ensures { result ≡ rules_underfed candidate word }
 {
@@ -52,6 +56,7 @@ fn rules_underfed(word: u64, candidate: Place) -> bool
 }
 
 // Whether a word rules a candidate overfed, as one that its place is at least as light as.
+#[tactic(auto, unfolding(discovery_spec::specs::Rejected::rules_overfed))]
 fn rules_overfed(word: u64, candidate: Place) -> bool
     ensures { result ≡ rules_overfed candidate word }
 {
@@ -63,6 +68,7 @@ fn rules_overfed(word: u64, candidate: Place) -> bool
 }
 
 // Which way some words rule a candidate. One that rules it overfed decides at once.
+#[tactic(auto, using(crate::proofs::laws::WordByWord::from_none))]
 pub fn ruling_by(words: &[u64], candidate: Place) -> Ruling
     ensures { result ≡ ruling_of words.now candidate }
 {
