@@ -31,6 +31,7 @@ pub enum Choice {
 }
 
 // Whether a word can be the next part of what is left of a whole.
+#[tactic(auto, unfolding(reduction_spec::specs::Cover::usable))]
 pub fn is_usable(word: u32, whole: u32, left: u32) -> bool
     ensures { result ≡ usable whole left word }
 {

@@ -6,16 +6,9 @@ use mathlib.Core.Path.{subst}
 use lib.Count.{leading_top}
 use Rattle.cover_choice.specs.Choosing.{Highest}
 use Rattle.cover_choice.proofs.laws.HighestBit.{highest_bit}
-use Rattle.cover_choice.proofs.highest_of.Statement.{statement}
-use Rattle.cover_choice.proofs.highest_of.Tie as tie
+use Rattle.cover_choice.proofs.highest_of.Goals as goal
 
-sub-result : tie.Need-overflow-sub-result
-sub-result c = let (j, count, reached, above) = leading_top 32 c.args.activities c.requires c.ranges.activities.fits in omega arith
-
-returns : tie.Need-returns
+pub returns : goal.returns
 returns c =
     let (j, count, reached, above) = leading_top 32 c.args.activities c.requires c.ranges.activities.fits in
     subst (Highest c.args.activities) (omega arith) (highest_bit c.args.activities j (omega arith) reached above)
-
-pub highest_of_spec : {M : Type 1} → statement M
-highest_of_spec = tie.close (tie.spec sub-result returns)
