@@ -7,6 +7,7 @@ use log_lines::line::count_at;
 use log_lines::{Count, LINE_FEED};
 
 // The case count of the frame that begins at an index, 0 where there is none.
+#[tactic(auto, unfolding(crate::specs::Stepping::cases_at))]
 pub fn cases_at(text: &[u8], from: usize) -> u64
     ensures { result ≡ cases_at text.now from }
 {

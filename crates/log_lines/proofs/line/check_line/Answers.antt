@@ -1,7 +1,8 @@
 -- `log_lines::line::check_line` meets its contract: the count and the activities give the line's
 -- shape, and the tests take its faults in the order of checks.
 -- Assumes nothing.
-use mathlib.Core.Path.{sym, ◌∙◌}
+use mathlib.Core.Path.{◌≡◌, sym, ◌∙◌}
+use mathlib.Core.Bool.{false}
 use native.Mathlib.Omega.{arith}
 use lib.ListN.{drop, length-drop}
 use lib.Seq.{drop-drop}
@@ -75,8 +76,8 @@ returns-then-misplaced c =
     let s = shape (goal.at.returns-then-misplaced c).In-Read in
     let readable : Readable c.args.line (first_line (drop c.args.from c.args.text.now))
     = record { few = c.if-line-ge-MOST_FRAMES.false; formed = shape_formed s (omega arith); short = shape_fits s (omega arith) } in
-    faulty _ _ _ _
-    (endpoint_misplaced_lem readable (s.names ∙ c.if-unknown.false) (s.places ∙ c.if-misplaced.true))
+    let known : c.in-Read.unknown ≡ false = cc in
+    faulty _ _ _ _ (endpoint_misplaced_lem readable (s.names ∙ known) (s.places ∙ c.if-misplaced.true))
 
 pub overflow_add-result : goal.overflow_add-result
 overflow_add-result c =
