@@ -14,6 +14,7 @@ use token_replay::{Tokens, digit_sets, replay_trace};
 const VERDICTS: usize = 4;
 
 // The number of the verdict that two tests give, without a branch: how traces go cannot be foretold.
+#[tactic(auto, unfolding(replay_spec::specs::Judgement::mark))]
 fn verdict_number(underfed: bool, overfed: bool) -> usize
     ensures { (result ≡ mark (verdict_where underfed overfed)) × (result < verdicts) }
 {
@@ -56,6 +57,7 @@ pub fn count_cases(text: &[u8], index: &[u64], from: usize, to: usize, place: Pl
 }
 
 // Whether the share of some cases in all of them is above a threshold in thousandths.
+#[tactic(auto, unfolding(replay_spec::specs::Judgement::exceeds))]
 fn share_exceeds(threshold: u16, total: u64, cases: u64) -> bool
     requires { (threshold ≤ 1000) × (cases ≤ total) × (total < 2 ^ 54) }
     ensures { result ≡ exceeds threshold total cases }
@@ -64,6 +66,7 @@ fn share_exceeds(threshold: u16, total: u64, cases: u64) -> bool
 }
 
 // The verdict on a place from its four case counts, which add up to all cases.
+#[tactic(auto, unfolding(replay_spec::specs::Judgement::verdict_of, replay_spec::specs::Judgement::underfed_cases, replay_spec::specs::Judgement::overfed_cases))]
 pub fn verdict_on(threshold: u16, counts: CaseCounts) -> Verdict
     requires { (threshold ≤ 1000) × (cases_of counts < 2 ^ 54) }
     ensures { result ≡ verdict_of threshold (cases_of counts) counts }

@@ -26,6 +26,7 @@ mod judgement; // judgement.rt: the case counts of a place and the verdict on it
 
 // Checks the arguments of a call on a log and a place, in the order of checks. Whether the call's
 // settings are in their ranges is handed in.
+#[tactic(auto, using(crate::proofs::laws::Arguments::setting_refused, crate::proofs::laws::Arguments::place_refused, crate::proofs::laws::Arguments::text_decides))]
 fn check_arguments(activities: u8, in_range: bool, text: &[u8], place: Place) -> Checked
     ensures { result ≡ arguments_checked activities in_range text.now place }
 {
