@@ -25,6 +25,7 @@ pub enum Gathered {
 }
 
 // Whether both inputs and outputs are left.
+#[tactic(auto, unfolding(places::specs::Places::through, places::specs::Places::place_of))]
 fn is_through(left: u32) -> bool
     ensures { result ≡ through (place_of left) }
 {
