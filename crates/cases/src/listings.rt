@@ -30,6 +30,7 @@ const CACHE_FILL: u64 = 0x3FFFF0000;
 const MOST_BUDGET: u64 = 4294967295;
 
 // Whether the words after the call's name are numbers that settings can be.
+#[tactic(auto, unfolding(crate::specs::Arguments::settings_fit))]
 fn settings_fit(line: &[u8]) -> bool
     ensures { result ≡ settings_fit line.now }
 {
@@ -45,6 +46,7 @@ fn settings_fit(line: &[u8]) -> bool
     argument(line, 4) <= 65535
 }
 
+#[tactic(auto, unfolding(crate::specs::Arguments::settings_in))]
 fn settings_in(line: &[u8]) -> Settings
     ensures { result ≡ settings_in line.now }
 {
@@ -167,6 +169,7 @@ struct Resources {
     budget: u64,
 }
 
+#[tactic(auto, unfolding(crate::specs::Arguments::resources_at))]
 fn resources_at(line: &[u8], index: usize) -> Resources
     requires { index ≤ 9 }
     ensures { result ≡ resources_at index line.now }

@@ -39,6 +39,7 @@ struct Sets {
     outputs: u64,
 }
 
+#[tactic(auto, unfolding(crate::specs::Places::sets_in))]
 fn sets_in(place: &[u8]) -> Sets
     ensures { result ≡ sets_in place.now }
 {

@@ -27,7 +27,7 @@ same_equal (x ∷ xs) (y ∷ ys) h =
     (λ f. let no = rw f at h in impossible (cc))
 
 -- what a comparison answers
-decided : {a : List ℕ} (b : List ℕ) {same answer : Bool} → (same ≡ true → a ≡ b) × (a ≡ b → same ≡ true) → same ≡ answer → same_bytes a b ≡ answer
+pub decided : {a : List ℕ} (b : List ℕ) {same answer : Bool} → (same ≡ true → a ≡ b) × (a ≡ b → same ≡ true) → same ≡ answer → same_bytes a b ≡ answer
 decided {a} b {same} {answer} h e =
     same_truth (λ t. h.1 (same_equal a b t)) (λ t. ap (λ (l : List ℕ). same_bytes l b) (h.0 t) ∙ same_itself b) ∙ e
 
