@@ -190,8 +190,8 @@ fn list_both<W: Write>(
     first: Resources,
     second: Resources,
 ) -> io::Result<()>
-    requires cache_bound { (first.cache ≤ 640) × (first.list ≤ 320) × (first.reduced ≤ 320) × (first.budget ≤ 4294967295) }
-    requires cache_bound_2 { (second.cache ≤ 640) × (second.list ≤ 320) × (second.reduced ≤ 320) × (second.budget ≤ 4294967295) }
+    requires first_within { (first.cache ≤ 640) × (first.list ≤ 320) × (first.reduced ≤ 320) × (first.budget ≤ 4294967295) }
+    requires second_within { (second.cache ≤ 640) × (second.list ≤ 320) × (second.reduced ≤ 320) × (second.budget ≤ 4294967295) }
 {
     let mut rejected1 = [CACHE_FILL; CACHE_WORDS];
     let mut found1 = [LIST_FILL; LIST_WORDS];
