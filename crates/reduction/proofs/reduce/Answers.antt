@@ -2,6 +2,7 @@
 -- that is too short, and else what is kept is written.
 -- Assumes nothing.
 use Prim.Native.Nat.{ℕ, ◌≤◌, ◌<◌}
+use native.Mathlib.Omega.{arith}
 use mathlib.Core.Path.{◌≡◌, refl, sym, ap, ◌∙◌}
 use mathlib.Core.List.{List}
 use mathlib.Core.Option.{none, some}
@@ -46,17 +47,17 @@ returns-then-invalid-words-clause-numbered c =
 
 pub returns-then-kept-words-clause-answer : goal.returns-then-kept-words-clause-answer
 returns-then-kept-words-clause-answer c =
-    let fine = no_fault c.args.words.now _ c.first_invalid-invalid.ensures.fault c.if-invalid-words.false in
+    let fine = no_fault c.args.words.now _ c.first_invalid-invalid.ensures.fault (omega arith) in
     sym (short_refused c.args.words.now c.args.kept.now fine c.if-kept-words.true).answers
 
 pub returns-then-kept-words-clause-list : goal.returns-then-kept-words-clause-list
 returns-then-kept-words-clause-list c =
-    let fine = no_fault c.args.words.now _ c.first_invalid-invalid.ensures.fault c.if-invalid-words.false in
+    let fine = no_fault c.args.words.now _ c.first_invalid-invalid.ensures.fault (omega arith) in
     sym (short_refused c.args.words.now c.args.kept.now fine c.if-kept-words.true).leaves
 
 pub returns-then-kept-words-clause-numbered : goal.returns-then-kept-words-clause-numbered
 returns-then-kept-words-clause-numbered c =
-    let fine = no_fault c.args.words.now _ c.first_invalid-invalid.ensures.fault c.if-invalid-words.false in
+    let fine = no_fault c.args.words.now _ c.first_invalid-invalid.ensures.fault (omega arith) in
     reduced_numbered _ _ (sym (short_refused c.args.words.now c.args.kept.now fine c.if-kept-words.true).answers)
 
 pub keep_irredundant-requires : goal.keep_irredundant-requires
