@@ -27,14 +27,16 @@ returns-then-invalid-words c =
 pub returns-then-text-words : goal.returns-then-text-words
 returns-then-text-words c =
     let a = c.args in
-    let valid = no_fault a.words.now _ c.if-invalid-words.false c.first_invalid-invalid.ensures.fault in
+    let first = c.first_invalid-invalid in
+    let valid = no_fault a.words.now first.result (omega arith) first.ensures.fault in
     let made = contract (short_refused a.words.now a.text.now valid (omega arith)) in
     record { answer = made.0; text = made.1.0; numbered = made.1.1 }
 
 pub returns : goal.returns
 returns c =
     let a = c.args in
-    let valid = no_fault a.words.now _ c.if-invalid-words.false c.first_invalid-invalid.ensures.fault in
+    let first = c.first_invalid-invalid in
+    let valid = no_fault a.words.now first.result (omega arith) first.ensures.fault in
     let made = lines_written a.words.now a.text.now valid (omega arith) in
     let said = contract (record {
       answers = ap Bytes c.write_lines.ensures.count ∙ made.answers;
