@@ -2,6 +2,7 @@
 -- set; one that stops the run, or the last one, makes the whole run.
 -- Assumes nothing.
 use Prim.Native.Nat.{ℕ}
+use native.Mathlib.Omega.{arith}
 use mathlib.Core.List.{List}
 use mathlib.Core.Logic.{inr}
 use Rattle.limits.specs.declared.Settings.{Settings}
@@ -47,7 +48,7 @@ loop-outputs-preserved c =
     c.loop-outputs.invariant
     c.loop-outputs-test.true
     c.search_inputs-run.ensures
-    c.if-run-ne-COMPLETED.false
+    (omega arith)
     c.search_inputs-run.auto.rejected
     c.search_inputs-run.auto.found)
 

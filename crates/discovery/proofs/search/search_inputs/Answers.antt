@@ -34,7 +34,7 @@ loop-inputs-preserved c =
     c.loop-inputs-test.true
     turn.1
     turn.0
-    c.if-turn-ne-COMPLETED.false
+    (omega arith)
     c.visit_candidate-turn.auto.rejected
     c.visit_candidate-turn.auto.found)
 
