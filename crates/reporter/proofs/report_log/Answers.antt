@@ -13,7 +13,7 @@ use Rattle.reduction_spec.specs.declared.Reduced.TheVariants as Reduction
 use Rattle.listing.specs.declared.Listing.{Listing}
 use Rattle.listing.specs.declared.Listing.TheVariants.{Incomplete, Complete}
 use Rattle.listing.specs.Listing.{Resources, resources_of, GoesAsWritten}
-use Rattle.reporter_spec.specs.Program.{list_words, capacity}
+use Rattle.reporter_spec.specs.Program.{capacity}
 use Rattle.reporter.proofs.laws.RunListed.{Reports, listing_refused, listing_stopped, listing_completed, reduction_passes}
 use Rattle.reporter.proofs.laws.LogReports.{refused_report, run_report, count_fits}
 use Rattle.reporter.proofs.report_log.Goals as goal
