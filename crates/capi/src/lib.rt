@@ -58,6 +58,7 @@ fn accept(value: &mut u64) -> u8
 }
 
 // The answer of a call that writes bytes, with how many they are.
+#[tactic(auto, unfolding(writer::specs::Writing::written_number, writer::specs::Writing::written_value, crate::specs::Results::byte_count_after))]
 fn answer_bytes(answer: Written, value: &mut u64, count: &mut u64) -> u8
     ensures number { result ≡ written_number answer }
     ensures value { value.new ≡ written_value answer }
@@ -81,6 +82,7 @@ pub extern "C" fn placelist_version() -> u32
 }
 
 // Checks a log: how many frames and cases it has.
+#[tactic(auto, unfolding(event_log_spec::specs::Checking::checked_number, event_log_spec::specs::Checking::checked_value, crate::specs::Results::sizes_after))]
 #[unsafe(no_mangle)]
 pub extern "C" fn placelist_check(
     activities: u8,
@@ -102,6 +104,7 @@ pub extern "C" fn placelist_check(
 }
 
 // Replays the first trace of a log on a place: the least and the last balance.
+#[tactic(auto, unfolding(replay_spec::specs::Answers::replayed_number, replay_spec::specs::Answers::replayed_value, crate::specs::Results::least_after, crate::specs::Results::last_after))]
 #[unsafe(no_mangle)]
 pub extern "C" fn placelist_replay(
     activities: u8,
@@ -134,6 +137,7 @@ pub extern "C" fn placelist_replay(
 }
 
 // Judges a place over a log at a threshold: the case counts and the verdict.
+#[tactic(auto, unfolding(replay_spec::specs::Answers::judged_number, replay_spec::specs::Answers::judged_value, crate::specs::Results::counts_after, crate::specs::Results::verdict_after))]
 #[unsafe(no_mangle)]
 pub extern "C" fn placelist_judge(
     activities: u8,
@@ -168,6 +172,7 @@ pub extern "C" fn placelist_judge(
 
 // Searches the candidates for the places that a log fits: how the run ended and what it counted,
 // with the words rejected and found.
+#[tactic(auto, unfolding(discovery_spec::specs::Discovery::discovered_number, discovery_spec::specs::Discovery::discovered_value, crate::specs::Results::run_after))]
 #[unsafe(no_mangle)]
 pub extern "C" fn placelist_search(
     activities: u8,
@@ -219,6 +224,7 @@ pub extern "C" fn placelist_search(
 }
 
 // Removes the redundant places from a list: how many words are left, with the words.
+#[tactic(auto, unfolding(reduction_spec::specs::Reduction::reduced_number, reduction_spec::specs::Reduction::reduced_value, crate::specs::Results::kept_count_after))]
 #[unsafe(no_mangle)]
 pub extern "C" fn placelist_reduce(
     words: &[u32],
