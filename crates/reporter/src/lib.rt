@@ -63,6 +63,7 @@ fn report_log(settings: Settings, text: &[u8], output: &mut [u8]) -> usize
 }
 
 // Writes what placelist writes for an input into a buffer that is long enough for any.
+#[tactic(auto, using(crate::proofs::laws::OutputRoom::too_large))]
 fn report_input(input: &[u8], output: &mut [u8]) -> usize
     requires { most_output ≤ length output.old }
     ensures count { result ≡ length (placelist input.now) }

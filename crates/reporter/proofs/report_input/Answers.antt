@@ -10,7 +10,7 @@ use Rattle.report_lines.specs.declared.SettingsFrame.TheVariants.{Read}
 use Rattle.report_lines.specs.ProgramLines.{settings_frame_in}
 use Rattle.reporter.specs.Reporting.{log_report}
 use Rattle.report_lines.proofs.laws.FrameLaws.{frame_long, read_settings, read_malformed}
-use Rattle.reporter.proofs.laws.OutputRoom.{too_large, frame_malformed, log_decides}
+use Rattle.reporter.proofs.laws.OutputRoom.{frame_malformed, log_decides}
 use Rattle.reporter.proofs.report_input.Goals as goal
 
 -- the log is what follows the frame
@@ -23,9 +23,6 @@ log_after input s short framed =
     let rest = take_all (length input - bytes) (drop bytes input) (omega (arith, length-drop bytes input)) in
     let read = read_settings input s framed in
     ap₂ log_report (sym read.1) rest ∙ sym (log_decides input short read.0)
-
-pub returns-then-input-gt-MOST_INPUT : goal.returns-then-input-gt-MOST_INPUT
-returns-then-input-gt-MOST_INPUT c = rw (too_large c.args.input.now (omega arith)) c.write_refusal.ensures
 
 -- the log starts inside the input, or at its end
 pub slice_bounds-report_log-count : goal.slice_bounds-report_log-count
