@@ -34,7 +34,7 @@
 ghost use Rattle.std.specs.Prelude.{◌≤◌, length, IfOk};
 
 use std::io;
-use std::io::{BufWriter, Read, Write};
+use std::io::Read;
 
 mod calls; // calls.rt: the calls by name, and a line of the table
 mod listings; // listings.rt: the calls that search
@@ -57,11 +57,9 @@ fn read_full<R: Read>(reader: &mut R, buffer: &mut [u8]) -> io::Result<usize>
     Ok(count)
 }
 
-// A read, a write or an allocation that fails ends the program with its error.
+// A read or a write that fails ends the program with its error.
 fn main(rt: HostRuntime) -> io::Result<()> {
     let mut table = [0u8; 131072];
     let count = read_full(&mut rt.stdin(), &mut table)?;
-    let mut out = BufWriter::new(rt.alloc(), io::writer(&rt))?;
-    calls::run_lines(&mut out, &table[..count])?;
-    out.flush()
+    calls::run_lines(&mut io::writer(&rt), &table[..count])
 }

@@ -66,8 +66,8 @@ module _ (step : ℕ) where
 
       pub stops : at < length words → (get_or words at 0 ≡ get_or words (at - 1) 0 + step → ⊥) → at ≡ run_length step words
       stops inside other =
-          let None-more = rw (ne_eqb (get_or words at 0) (get_or words (at - 1) 0 + step) other) at (next_word (get_or words (at - 1) 0) inside) in
-          omega (arith, None-more, r)
+          let none_more = rw (ne_eqb (get_or words at 0) (get_or words (at - 1) 0 + step) other) at (next_word (get_or words (at - 1) 0) inside) in
+          omega (arith, none_more, r)
 
       pub ends : length words ≤ at → at ≡ run_length step words
       unfolding further
