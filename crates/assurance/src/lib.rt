@@ -5,14 +5,14 @@
 ghost use Rattle.listing.specs.Listing.{resources_of, GoesAsWritten};
 ghost use Rattle.assurance_spec.specs.Demand3.{observed, Demand3};
 
-use limits::Settings;
+use limits::{Refusal, Settings};
 use listing::{Listing, list_places};
 
 // What two runs and the reductions of their lists answered.
 #[derive(Drop)]
 pub struct BothListings {
-    pub first: Listing,
-    pub second: Listing,
+    pub first: Result<Listing, Refusal>,
+    pub second: Result<Listing, Refusal>,
 }
 
 // Makes two runs on a log, each with a cache, a list and a budget of its own, and after a completed

@@ -2,44 +2,44 @@
 -- both reductions. It speaks of what a caller sees: what was lent, what was answered, and what the
 -- buffers hold on return. Document 00, demand 3; document 01, the words of demand 3.
 -- Assumes nothing.
-use Rattle.std.specs.Prelude.{ℕ, ◌≤◌, ◌≡◌, ◌↔◌, true, length, take}
+use Rattle.std.specs.Prelude.{ℕ, ◌≤◌, ◌≡◌, ◌↔◌, true, length, take, Option, None, Some, Result, Ok, Err}
 use mathlib.Core.List.{List, ◌++◌, map, Memᴰ}
-use Rattle.std.proofs.Math.Option.{Option, none, some}
 use Rattle.foundation.specs.Lists.{Ordered}
+use Rattle.limits.specs.declared.Refusal.{Refusal}
 use Rattle.limits.specs.declared.Settings.{Settings}
 use Rattle.places.specs.declared.Place.{Place}
 use Rattle.places.specs.Places.{word, place_of}
 use Rattle.places.specs.Order.{PlaceBefore}
 use Rattle.places.specs.Candidates.{candidate, candidates}
+use Rattle.discovery_spec.specs.declared.End.TheVariants as End
 use Rattle.discovery_spec.specs.declared.Run.{Run}
 use Rattle.discovery_spec.specs.TwoRuns.{fits, fitting_candidates}
-use Rattle.reduction_spec.specs.declared.Reduced.TheVariants.{Kept}
 use Rattle.reduction_spec.specs.Unions.{UnionOf}
 use Rattle.reduction_spec.specs.Reduction.{reduced_words}
 use Rattle.listing.specs.declared.Listing.{Listing}
-use Rattle.listing.specs.declared.Listing.TheVariants.{Refused, Incomplete, Complete}
+use Rattle.listing.specs.declared.Listing.TheVariants.{Incomplete, Complete}
 use Rattle.listing.specs.Listing.{Resources, found_in, found_left, kept_left, listing}
 
 -- one run and its reduction as a caller sees them: what was lent, the answer, and the list and the
 -- second buffer on return
 pub record Observed : Type 0 where
   pub resources : Resources
-  pub answer : Listing
+  pub answer : Result Listing Refusal
   pub found : List ℕ
   pub kept : List ℕ
 
-abbrev pub observed : Resources → Listing → List ℕ → List ℕ → Observed
+abbrev pub observed : Resources → Result Listing Refusal → List ℕ → List ℕ → Observed
 observed resources answer found kept = record { resources = resources; answer = answer; found = found; kept = kept }
 
 -- the run of an answer: a call of the search that is not refused
-unfoldable pub run_of : Listing → Option Run
-run_of (Refused refusal) = none
-run_of (Incomplete run) = some run
-run_of (Complete run reduced) = some run
+unfoldable pub run_of : Result Listing Refusal → Option Run
+run_of (Err refusal) = None
+run_of (Ok (Incomplete run)) = Some run
+run_of (Ok (Complete run reduced)) = Some run
 
 -- a run completes: its end is 0
 abbrev pub Completed : Run → Type 0
-Completed run = run.end ≡ 0
+Completed run = run.end ≡ End.Completed
 
 -- cache (shelf), list and replay budget (allowance) of the second are none of them smaller
 pub record AtLeastAsLarge (first second : Resources) : Type 0 where
@@ -69,7 +69,7 @@ unfoldable pub ReducedTo : Observed → Run → Type 0
 ReducedTo o run =
     let listed = found_in run o.found in
     length listed ≤ length o.resources.kept
-    → (count : ℕ) × (o.answer ≡ Complete run (Kept count)) × ExactlyIrredundant listed (take count o.kept)
+    → (count : ℕ) × (o.answer ≡ Ok (Complete run (Ok count))) × ExactlyIrredundant listed (take count o.kept)
 
 -- a run completes when its list has room for all fitting candidates and its budget is the number of
 -- candidates or more
@@ -106,8 +106,8 @@ module _ (s : Settings) (text : List ℕ) (first second : Observed) where
   unfoldable pub Demand3 : Type 0
   Demand3 =
       (run₁ run₂ : Run)
-      → run_of first.answer ≡ some run₁
-      → run_of second.answer ≡ some run₂
+      → run_of first.answer ≡ Some run₁
+      → run_of second.answer ≡ Some run₂
       → AtLeastAsLarge first.resources second.resources
       → AnyTwoRuns run₁ run₂
 

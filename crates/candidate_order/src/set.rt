@@ -1,6 +1,6 @@
 // Sets of activities as 16-bit numbers, by operations on their bits: document 01, "Candidates and
 // their order" and the last paragraph of "The walk".
-ghost use Rattle.std.specs.Prelude.{◌≡◌, true, ℕ, suc, ◌^◌, ◌≤◌, ◌<◌};
+ghost use Rattle.std.specs.Prelude.{◌≡◌, true, ℕ, ◌^◌, ◌≤◌, ◌<◌};
 ghost use Rattle.limits.specs.Settings.{most_activities};
 ghost use Rattle.places.specs.Sets.{size, within};
 ghost use Rattle.places.specs.Candidates.{candidate_set, sets};
@@ -19,16 +19,7 @@ pub fn is_within(set: u16, of: u16) -> bool
 pub fn size_of(set: u16) -> u32
     ensures { result ≡ size set }
 {
-    u16::count_ones(set)
-}
-
-// The highest code of a set that has one.
-#[tactic(auto, using(candidate_order_spec::proofs::laws::Highest::highest_code), unfolding(candidate_order_spec::proofs::laws::Highest::highest))]
-fn highest_of(set: u16) -> u32
-    requires { 0 < set }
-    ensures { (result < most_activities) × (2 ^ result ≤ set) × (set < 2 ^ suc result) }
-{
-    15 - u16::leading_zeros(set)
+    set.count_ones()
 }
 
 // The set after a given one in the stated order, 0 after the last: with the code above its highest
@@ -37,11 +28,9 @@ pub fn set_after(activities: u8, most: u8, set: u16) -> u16
     requires { (activities ≤ most_activities) × (candidate_set activities most set ≡ true) }
     ensures { result ≡ set_after set (sets activities most) }
 {
-    let next = highest_of(set) + 1;
-    if next < activities as u32 {
-        if size_of(set) < most as u32 {
-            return set + (1u16 << next);
-        }
+    let next = set.ilog2() + 1;
+    if next < u32::from(activities) && size_of(set) < u32::from(most) {
+        return set + (1 << next);
     }
     set_past(activities, set)
 }
@@ -52,14 +41,14 @@ pub fn set_past(activities: u8, set: u16) -> u16
     requires { (activities ≤ most_activities) × (0 < set) × (set < 2 ^ activities) }
     ensures { (most : ℕ) → candidate_set activities most set ≡ true → result ≡ set_past set (sets activities most) }
 {
-    let highest = highest_of(set);
-    let bit = 1u16 << highest;
-    if highest + 1 < activities as u32 {
+    let highest = set.ilog2();
+    let bit = 1 << highest;
+    if highest + 1 < u32::from(activities) {
         return set + bit;
     }
     let rest = set - bit;
     if rest == 0 {
         return 0;
     }
-    rest + (1u16 << highest_of(rest))
+    rest + (1 << rest.ilog2())
 }

@@ -1,108 +1,137 @@
 // One candidate in its turn: document 01, "The walk", the list of what happens to a candidate.
 #![tactic(auto)]
 
-ghost use Rattle.std.specs.Prelude.{◌≡◌, ℕ, ◌+◌, ◌≤◌, ◌<◌, ◌^◌};
-ghost use Rattle.event_log_spec.specs.Lines.{frames_of};
-ghost use Rattle.event_log.specs.FrameIndex.{Indexed};
-ghost use Rattle.replay_spec.specs.Judgement.{verdict};
-ghost use Rattle.rulings.specs.declared.Ruling.TheVariants.{Unruled};
-ghost use Rattle.rulings.specs.Rulings.{ruling_of};
-ghost use Rattle.discovery_spec.specs.Search.{conclude, visit};
-ghost use Rattle.discovery_spec.specs.Discovery.{capacity_of};
-ghost use Rattle.candidate_visit.specs.Standing.{state_in, Stands, Leaves, prunes};
+ghost use Rattle.std.specs.Prelude.{◌≡◌, ℕ, ◌+◌, ◌≤◌, ◌<◌, ◌^◌, length, take};
 
-use discovery_spec::{BUDGET_SPENT, LIST_FULL, MARK_UNIT, Run};
-use places::{Place, word_of};
+use discovery_spec::{End, MARK_UNIT};
+use event_log::index::IndexedLog;
+use limits::Settings;
+use places::Place;
 use replay::verdict_over;
-use replay_spec::{Verdict, mark_of};
+use replay_spec::Verdict;
 use rulings::{Ruling, ruling_by};
 
-// What a candidate's turn leaves: the run with it, and whether its descendants are pruned.
+// What a search is given and leaves as it is: its settings, the log with its index, and the budget
+// of replays.
 #[derive(Drop)]
-pub struct Turn {
-    pub run: Run,
-    pub prune: bool,
+pub struct Search<'a> {
+    pub settings: Settings,
+    pub log: IndexedLog<'a>,
+    pub budget: u32,
+    pub ghost small_threshold: { settings.threshold ≤ 1000 },
 }
 
-// What follows the replay of a candidate that no word ruled: it is found, or its word goes where
-// there is room among the rejected. Only a word that was kept can prune, and then by its own mark.
-fn conclude_turn(
-    rejected: &mut [u64],
-    found: &mut [u32],
-    run: Run,
-    candidate: Place,
-    verdict: Verdict,
-) -> Turn
-    requires { Stands run rejected.old found.old
-        × (ruling_of (state_in run rejected.old found.old).rejected candidate ≡ Unruled) }
-    ensures { (budget : ℕ) → let p = conclude (capacity_of rejected.old found.old budget) verdict candidate
-        (state_in run rejected.old found.old) in
-        Leaves p rejected.old found.old result.run rejected.new found.new × (result.prune ≡ prunes p) }
-{
-    let word = word_of(candidate);
-    let mark = mark_of(verdict);
-    let mut run = run;
-    if mark == 0 {
-        let at = run.found;
-        if at < found.len() {
-            found[at] = word;
-            run.found = at + 1;
-        } else {
-            run.end = LIST_FULL;
-        }
-        return Turn { run, prune: false };
-    }
-    let at = run.rejected;
-    if at < rejected.len() {
-        rejected[at] = word as u64 + MARK_UNIT * mark as u64;
-        run.rejected = at + 1;
-        return Turn {
-            run,
-            prune: 2 <= mark,
-        };
-    }
-    // the word is dropped, and prunes nothing
-    let prune = false;
-    Turn { run, prune }
+// A run under way: the buffers that it was lent for the words of the places that it rejects and
+// finds, how many words it wrote from the front of each, and how many candidates it replayed and
+// visited.
+#[derive(Drop)]
+pub struct RunState<'a> {
+    pub rejected: &'a mut [u64],
+    pub found: &'a mut [u32],
+    pub rejected_count: usize,
+    pub found_count: usize,
+    pub replays: u32,
+    pub visits: u32,
+    pub ghost rejected_there: { rejected_count ≤ length rejected.now },
+    pub ghost found_there: { found_count ≤ length found.now },
 }
 
-// One candidate that is not pruned: where a word rules it, it is visited and skipped; with the
-// budget spent the run stops; else it is visited and replayed.
-pub fn visit_candidate(
-    threshold: u16,
-    text: &[u8],
-    index: &[u64],
-    budget: u32,
-    rejected: &mut [u64],
-    found: &mut [u32],
-    run: Run,
-    candidate: Place,
-) -> Turn
-    requires { (threshold ≤ 1000) × Indexed text.now index.now × Stands run rejected.old found.old × (run.visits + 1 < 2 ^ 32) }
-    ensures { let p = visit (verdict threshold (frames_of text.now)) (capacity_of rejected.old found.old budget)
-        candidate (state_in run rejected.old found.old) in
-        Leaves p rejected.old found.old result.run rejected.new found.new × (result.prune ≡ prunes p) }
-{
-    let mut run = run;
-    let count = run.rejected;
-    match ruling_by(&rejected[0..count], candidate) {
-        Ruling::AsOverfed => {
-            run.visits += 1;
-            Turn { run, prune: true }
+// What a candidate's turn says of its descendants.
+#[derive(Clone, Copy, Drop)]
+pub enum Descendants {
+    Searched,
+    Pruned,
+}
+
+impl RunState<'_> {
+    ghost use Rattle.event_log_spec.specs.Lines.{frames_of};
+    ghost use Rattle.replay_spec.specs.Judgement.{verdict};
+    ghost use Rattle.rulings.specs.declared.Ruling.TheVariants.{Unruled};
+    ghost use Rattle.rulings.specs.Rulings.{ruling_of};
+    ghost use Rattle.discovery_spec.specs.Search.{accept, reject, replay, visit};
+    ghost use Rattle.candidate_visit.specs.Standing.{state_in, room_in, Turns};
+
+    // The words of the places rejected so far.
+    fn rejected_words(&self) -> &[u64]
+        ensures { result.now ≡ take self.now.rejected_count self.now.rejected.now }
+    {
+        &self.rejected[..self.rejected_count]
+    }
+
+    // A fitting candidate is found where there is room for its word, and else stops the run.
+    fn accept(&mut self, candidate: Place) -> Result<Descendants, End>
+        requires { ruling_of (state_in self.old).rejected candidate ≡ Unruled }
+        ensures { (budget : ℕ) → Turns
+            (accept (room_in self.old budget) candidate (state_in self.old))
+            self.old result self.new }
+    {
+        if self.found.len() <= self.found_count {
+            return Err(End::ListFull);
         }
-        Ruling::AsUnderfed => {
-            run.visits += 1;
-            Turn { run, prune: false }
+        self.found[self.found_count] = u32::from(candidate);
+        self.found_count += 1;
+        Ok(Descendants::Searched)
+    }
+
+    // The word of another candidate goes where there is room among the rejected. Only a word that
+    // was kept can prune, and then by its own mark.
+    fn reject(&mut self, candidate: Place, verdict: Verdict) -> Descendants
+        requires { ruling_of (state_in self.old).rejected candidate ≡ Unruled }
+        ensures { (budget : ℕ) → Turns
+            (reject (room_in self.old budget) verdict candidate (state_in self.old))
+            self.old (Ok result) self.new }
+    {
+        if self.rejected.len() <= self.rejected_count {
+            return Descendants::Searched;
         }
-        Ruling::Unruled => {
-            if budget <= run.replays {
-                run.end = BUDGET_SPENT;
-                return Turn { run, prune: false };
+        let word = u64::from(u32::from(candidate)) + MARK_UNIT * u64::from(verdict.mark());
+        self.rejected[self.rejected_count] = word;
+        self.rejected_count += 1;
+        match verdict {
+            Verdict::Overfed | Verdict::Both => Descendants::Pruned,
+            Verdict::Fitting | Verdict::Underfed => Descendants::Searched,
+        }
+    }
+
+    // A candidate that no word rules: with the budget spent the run stops, and else it is visited
+    // and replayed.
+    fn replay(&mut self, search: &Search, candidate: Place) -> Result<Descendants, End>
+        requires unruled { ruling_of (state_in self.old).rejected candidate ≡ Unruled }
+        requires countable { self.old.visits + 1 < 2 ^ 32 }
+        ensures { let s = search.now in
+            let verdict = verdict s.settings.threshold (frames_of s.log.text.now) in
+            Turns (replay verdict (room_in self.old s.budget) candidate (state_in self.old))
+            self.old result self.new }
+    {
+        if search.budget <= self.replays {
+            return Err(End::BudgetSpent);
+        }
+        self.visits += 1;
+        self.replays += 1;
+        match verdict_over(search.settings.threshold, &search.log, candidate) {
+            Verdict::Fitting => self.accept(candidate),
+            verdict => Ok(self.reject(candidate, verdict)),
+        }
+    }
+
+    // One candidate that is not pruned: where a word rules it, it is visited and skipped.
+    pub fn visit(&mut self, search: &Search, candidate: Place) -> Result<Descendants, End>
+        requires { self.old.visits + 1 < 2 ^ 32 }
+        ensures { let s = search.now in
+            let verdict = verdict s.settings.threshold (frames_of s.log.text.now) in
+            Turns (visit verdict (room_in self.old s.budget) candidate (state_in self.old))
+            self.old result self.new }
+    {
+        match ruling_by(self.rejected_words(), candidate) {
+            Ruling::AsOverfed => {
+                self.visits += 1;
+                Ok(Descendants::Pruned)
             }
-            run.visits += 1;
-            run.replays += 1;
-            let verdict = verdict_over(threshold, text, index, candidate);
-            conclude_turn(rejected, found, run, candidate, verdict)
+            Ruling::AsUnderfed => {
+                self.visits += 1;
+                Ok(Descendants::Searched)
+            }
+            Ruling::Unruled => self.replay(search, candidate),
         }
     }
 }

@@ -5,32 +5,28 @@
 #![tactic(auto)]
 
 ghost use Rattle.std.specs.Prelude.{◌≡◌, length};
-ghost use Rattle.limits.specs.Refusals.{number};
+ghost use Rattle.limits.specs.Refusals.{number, answer_number, answer_value};
 ghost use Rattle.limits.specs.Refusals.{value as value_of};
 ghost use Rattle.places.specs.Places.{place};
-ghost use Rattle.event_log_spec.specs.Checking.{checked, checked_number, checked_value};
-ghost use Rattle.replay_spec.specs.Answers.{replayed, judged, replayed_number, replayed_value, judged_number, judged_value};
-ghost use Rattle.discovery_spec.specs.Discovery.{discovered, discovered_number, discovered_value, capacity_of, found_after, rejected_after};
-ghost use Rattle.reduction_spec.specs.Reduction.{reduced, reduced_number, reduced_value, reduced_after};
-ghost use Rattle.writer.specs.Writing.{written, written_number, written_value, written_after};
+ghost use Rattle.event_log_spec.specs.Checking.{checked};
+ghost use Rattle.replay_spec.specs.Answers.{replayed, judged};
+ghost use Rattle.discovery_spec.specs.Discovery.{discovered, capacity_of, found_after, rejected_after};
+ghost use Rattle.reduction_spec.specs.Reduction.{reduced, reduced_after};
+ghost use Rattle.writer.specs.Writing.{written, written_after};
 ghost use Rattle.reporter.specs.Reporting.{reported, output_after};
 ghost use Rattle.capi.specs.Settings.{settings_of};
 ghost use Rattle.capi.specs.Results.{sizes_after, least_after, last_after, counts_after, verdict_after};
-ghost use Rattle.capi.specs.Results.{run_after, kept_count_after, byte_count_after};
+ghost use Rattle.capi.specs.Results.{run_after, count_after};
 ghost use Rattle.capi.specs.Version.{version};
 
 use discovery::discover;
-use discovery_spec::Discovered;
 use event_log::check_log;
-use event_log_spec::Checked;
-use limits::{Refusal, Settings, number_of, value_of};
+use limits::{Refusal, Settings};
 use places::Place;
 use reduction::reduce;
-use reduction_spec::Reduced;
 use replay::{judge_place, replay_first_trace};
-use replay_spec::{Judged, Replayed, mark_of};
 use reporter::report_places;
-use writer::{Written, write_places};
+use writer::write_places;
 
 // The version of the calls and formats, as `library/placelist.h` has it.
 const MAJOR: u32 = 1;
@@ -44,8 +40,8 @@ fn refuse(refusal: Refusal, value: &mut u64) -> u8
     ensures number { result ≡ number refusal }
     ensures value { value.new ≡ value_of refusal }
 {
-    *value = value_of(refusal) as u64;
-    number_of(refusal)
+    *value = refusal.value() as u64;
+    refusal.number()
 }
 
 // The answer of a call that is not refused, 0, with 0 for its value.
@@ -57,17 +53,17 @@ fn accept(value: &mut u64) -> u8
     0
 }
 
-// The answer of a call that writes bytes, with how many they are.
-#[tactic(auto, unfolding(writer::specs::Writing::written_number, writer::specs::Writing::written_value, crate::specs::Results::byte_count_after))]
-fn answer_bytes(answer: Written, value: &mut u64, count: &mut u64) -> u8
-    ensures number { result ≡ written_number answer }
-    ensures value { value.new ≡ written_value answer }
-    ensures count { count.new ≡ byte_count_after answer count.old }
+// The answer of a call that counts words or bytes, with how many they are.
+#[tactic(auto, unfolding(limits::specs::Refusals::answer_number, limits::specs::Refusals::answer_value, crate::specs::Results::count_after))]
+fn answer_count(answer: Result<usize, Refusal>, value: &mut u64, count: &mut u64) -> u8
+    ensures number { result ≡ answer_number answer }
+    ensures value { value.new ≡ answer_value answer }
+    ensures count { count.new ≡ count_after answer count.old }
 {
     match answer {
-        Written::Refused(refusal) => refuse(refusal, value),
-        Written::Bytes(bytes) => {
-            *count = bytes as u64;
+        Err(refusal) => refuse(refusal, value),
+        Ok(counted) => {
+            *count = counted as u64;
             accept(value)
         }
     }
@@ -82,7 +78,7 @@ pub extern "C" fn placelist_version() -> u32
 }
 
 // Checks a log: how many frames and cases it has.
-#[tactic(auto, unfolding(event_log_spec::specs::Checking::checked_number, event_log_spec::specs::Checking::checked_value, crate::specs::Results::sizes_after))]
+#[tactic(auto, unfolding(limits::specs::Refusals::answer_number, limits::specs::Refusals::answer_value, crate::specs::Results::sizes_after))]
 #[unsafe(no_mangle)]
 pub extern "C" fn placelist_check(
     activities: u8,
@@ -90,21 +86,21 @@ pub extern "C" fn placelist_check(
     value: &mut u64,
     counts: &mut [u64; 2],
 ) -> u8
-    ensures number { result ≡ checked_number (checked activities text.now) }
-    ensures value { value.new ≡ checked_value (checked activities text.now) }
+    ensures number { result ≡ answer_number (checked activities text.now) }
+    ensures value { value.new ≡ answer_value (checked activities text.now) }
     ensures counts { counts.new ≡ sizes_after (checked activities text.now) counts.old }
 {
     match check_log(activities, text) {
-        Checked::Refused(refusal) => refuse(refusal, value),
-        Checked::Accepted { frames, cases } => {
-            *counts = [frames as u64, cases];
+        Err(refusal) => refuse(refusal, value),
+        Ok(size) => {
+            *counts = [size.frames as u64, size.cases];
             accept(value)
         }
     }
 }
 
 // Replays the first trace of a log on a place: the least and the last balance.
-#[tactic(auto, unfolding(replay_spec::specs::Answers::replayed_number, replay_spec::specs::Answers::replayed_value, crate::specs::Results::least_after, crate::specs::Results::last_after))]
+#[tactic(auto, unfolding(limits::specs::Refusals::answer_number, limits::specs::Refusals::answer_value, crate::specs::Results::least_after, crate::specs::Results::last_after))]
 #[unsafe(no_mangle)]
 pub extern "C" fn placelist_replay(
     activities: u8,
@@ -115,29 +111,26 @@ pub extern "C" fn placelist_replay(
     least: &mut i16,
     last: &mut i16,
 ) -> u8
-    ensures number { result ≡ replayed_number (replayed activities text.now (place inputs outputs)) }
+    ensures number { result ≡ answer_number (replayed activities text.now (place inputs outputs)) }
     ensures value { value.new
-        ≡ replayed_value (replayed activities text.now (place inputs outputs)) }
+        ≡ answer_value (replayed activities text.now (place inputs outputs)) }
     ensures least { least.new
         ≡ least_after (replayed activities text.now (place inputs outputs)) least.old }
     ensures last { last.new
         ≡ last_after (replayed activities text.now (place inputs outputs)) last.old }
 {
     match replay_first_trace(activities, text, Place { inputs, outputs }) {
-        Replayed::Refused(refusal) => refuse(refusal, value),
-        Replayed::Balances {
-            least: lowest,
-            last: end,
-        } => {
-            *least = lowest;
-            *last = end;
+        Err(refusal) => refuse(refusal, value),
+        Ok(balances) => {
+            *least = balances.least;
+            *last = balances.last;
             accept(value)
         }
     }
 }
 
 // Judges a place over a log at a threshold: the case counts and the verdict.
-#[tactic(auto, unfolding(replay_spec::specs::Answers::judged_number, replay_spec::specs::Answers::judged_value, crate::specs::Results::counts_after, crate::specs::Results::verdict_after))]
+#[tactic(auto, unfolding(limits::specs::Refusals::answer_number, limits::specs::Refusals::answer_value, crate::specs::Results::counts_after, crate::specs::Results::verdict_after))]
 #[unsafe(no_mangle)]
 pub extern "C" fn placelist_judge(
     activities: u8,
@@ -149,22 +142,20 @@ pub extern "C" fn placelist_judge(
     counts: &mut [u64; 4],
     verdict: &mut u8,
 ) -> u8
-    ensures number { result ≡ judged_number (judged activities threshold text.now (place inputs outputs)) }
+    ensures number { result ≡ answer_number (judged activities threshold text.now (place inputs outputs)) }
     ensures value { value.new
-        ≡ judged_value (judged activities threshold text.now (place inputs outputs)) }
+        ≡ answer_value (judged activities threshold text.now (place inputs outputs)) }
     ensures counts { counts.new
         ≡ counts_after (judged activities threshold text.now (place inputs outputs)) counts.old }
     ensures verdict { verdict.new
         ≡ verdict_after (judged activities threshold text.now (place inputs outputs)) verdict.old }
 {
     match judge_place(activities, threshold, text, Place { inputs, outputs }) {
-        Judged::Refused(refusal) => refuse(refusal, value),
-        Judged::Counted {
-            counts: cases,
-            verdict: judgement,
-        } => {
+        Err(refusal) => refuse(refusal, value),
+        Ok(judgement) => {
+            let cases = judgement.counts;
             *counts = [cases.fitting, cases.underfed, cases.overfed, cases.both];
-            *verdict = mark_of(judgement);
+            *verdict = judgement.verdict.mark();
             accept(value)
         }
     }
@@ -172,7 +163,7 @@ pub extern "C" fn placelist_judge(
 
 // Searches the candidates for the places that a log fits: how the run ended and what it counted,
 // with the words rejected and found.
-#[tactic(auto, unfolding(discovery_spec::specs::Discovery::discovered_number, discovery_spec::specs::Discovery::discovered_value, crate::specs::Results::run_after))]
+#[tactic(auto, unfolding(limits::specs::Refusals::answer_number, limits::specs::Refusals::answer_value, crate::specs::Results::run_after))]
 #[unsafe(no_mangle)]
 pub extern "C" fn placelist_search(
     activities: u8,
@@ -187,10 +178,10 @@ pub extern "C" fn placelist_search(
     run: &mut [u64; 5],
 ) -> u8
     ensures number { result
-        ≡ discovered_number (discovered (settings_of activities most_inputs most_outputs threshold) text.now
+        ≡ answer_number (discovered (settings_of activities most_inputs most_outputs threshold) text.now
         (capacity_of rejected.old found.old budget)) }
     ensures value { value.new
-        ≡ discovered_value (discovered (settings_of activities most_inputs most_outputs threshold) text.now
+        ≡ answer_value (discovered (settings_of activities most_inputs most_outputs threshold) text.now
         (capacity_of rejected.old found.old budget)) }
     ensures run { run.new
         ≡ run_after (discovered (settings_of activities most_inputs most_outputs threshold) text.now
@@ -209,10 +200,10 @@ pub extern "C" fn placelist_search(
         threshold,
     };
     match discover(settings, text, budget, rejected, found) {
-        Discovered::Refused(refusal) => refuse(refusal, value),
-        Discovered::Ran(done) => {
+        Err(refusal) => refuse(refusal, value),
+        Ok(done) => {
             *run = [
-                done.end,
+                done.end.number(),
                 done.found as u64,
                 done.rejected as u64,
                 done.replays as u64,
@@ -224,7 +215,6 @@ pub extern "C" fn placelist_search(
 }
 
 // Removes the redundant places from a list: how many words are left, with the words.
-#[tactic(auto, unfolding(reduction_spec::specs::Reduction::reduced_number, reduction_spec::specs::Reduction::reduced_value, crate::specs::Results::kept_count_after))]
 #[unsafe(no_mangle)]
 pub extern "C" fn placelist_reduce(
     words: &[u32],
@@ -232,18 +222,12 @@ pub extern "C" fn placelist_reduce(
     value: &mut u64,
     count: &mut u64,
 ) -> u8
-    ensures number { result ≡ reduced_number (reduced words.now (length kept.old)) }
-    ensures value { value.new ≡ reduced_value (reduced words.now (length kept.old)) }
-    ensures count { count.new ≡ kept_count_after (reduced words.now (length kept.old)) count.old }
+    ensures number { result ≡ answer_number (reduced words.now (length kept.old)) }
+    ensures value { value.new ≡ answer_value (reduced words.now (length kept.old)) }
+    ensures count { count.new ≡ count_after (reduced words.now (length kept.old)) count.old }
     ensures kept { kept.new ≡ reduced_after words.now kept.old }
 {
-    match reduce(words, kept) {
-        Reduced::Refused(refusal) => refuse(refusal, value),
-        Reduced::Kept(left) => {
-            *count = left as u64;
-            accept(value)
-        }
-    }
+    answer_count(reduce(words, kept), value, count)
 }
 
 // Writes a list of places as text: how many bytes it has, with the text.
@@ -254,12 +238,12 @@ pub extern "C" fn placelist_write(
     value: &mut u64,
     count: &mut u64,
 ) -> u8
-    ensures number { result ≡ written_number (written words.now (length text.old)) }
-    ensures value { value.new ≡ written_value (written words.now (length text.old)) }
-    ensures count { count.new ≡ byte_count_after (written words.now (length text.old)) count.old }
+    ensures number { result ≡ answer_number (written words.now (length text.old)) }
+    ensures value { value.new ≡ answer_value (written words.now (length text.old)) }
+    ensures count { count.new ≡ count_after (written words.now (length text.old)) count.old }
     ensures text { text.new ≡ written_after words.now text.old }
 {
-    answer_bytes(write_places(words, text), value, count)
+    answer_count(write_places(words, text), value, count)
 }
 
 // All of the program placelist but its reads and writes: how many bytes it writes for an input,
@@ -271,10 +255,10 @@ pub extern "C" fn placelist_report(
     value: &mut u64,
     count: &mut u64,
 ) -> u8
-    ensures number { result ≡ written_number (reported input.now (length output.old)) }
-    ensures value { value.new ≡ written_value (reported input.now (length output.old)) }
-    ensures count { count.new ≡ byte_count_after (reported input.now (length output.old)) count.old }
+    ensures number { result ≡ answer_number (reported input.now (length output.old)) }
+    ensures value { value.new ≡ answer_value (reported input.now (length output.old)) }
+    ensures count { count.new ≡ count_after (reported input.now (length output.old)) count.old }
     ensures output { output.new ≡ output_after input.now output.old }
 {
-    answer_bytes(report_places(input, output), value, count)
+    answer_count(report_places(input, output), value, count)
 }

@@ -1,6 +1,7 @@
 pub mod Parts
-pub mod Appending
+pub mod Filling
 pub mod Digits
+pub mod Ranges
+pub mod Words
+pub mod Copies
 pub mod RunLengths
-pub mod RisingWords
-pub mod Pieces

@@ -1,6 +1,6 @@
 pub mod Fields
+pub mod Filling
 pub mod Numbers
-pub mod Unfolding
 pub mod Texts
 pub mod WordLists
 pub mod Runs

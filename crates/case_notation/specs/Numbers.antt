@@ -1,25 +1,24 @@
 -- Numbers of 32 bits in digits.
 -- Assumes nothing.
-use Rattle.std.specs.Prelude.{ℕ, ◌+◌, ◌*◌, ◌-◌, min, cond, ◌&&◌, List, eqb, leb, length}
-use Rattle.foundation.specs.Lists.{foldl}
+use Rattle.std.specs.Prelude.{ℕ, ◌+◌, ◌*◌, ◌^◌, cond, ◌&&◌, Option, Some, None, List, [], ◌∷◌, eqb, ltb, length}
+use Rattle.std.specs.Option.{option_and_then}
+use Rattle.hex_digits.specs.Digits.{digit_of}
 use Rattle.case_notation.specs.Fields.{word_at}
 
--- 0 to 9 and A to F, or 16 of a byte that is no digit
-unfoldable pub digit_value : ℕ → ℕ
-digit_value b = cond (leb 48 b && leb b 57) (b - 48) (cond (leb 65 b && leb b 70) (b - 55) 16)
+-- a number of 32 bits with one digit more
+abbrev pub longer : ℕ → ℕ → ℕ → Option ℕ
+longer base number byte =
+    option_and_then (λ value. cond (ltb value base && ltb (number * base + value) (2 ^ 32)) (Some (number * base + value)) None) (digit_of byte)
 
--- what stands for no number: 2 to the power 32
-abbrev pub none : ℕ
-none = 4294967296
-
--- a number with one digit more; a larger one than 32 bits hold is none
-unfoldable pub longer : ℕ → ℕ → ℕ → ℕ
-longer base number byte = cond (leb base (digit_value byte)) none (min none (number * base + digit_value byte))
+-- the number that a number and digits after it make
+unfoldable pub continued : ℕ → ℕ → List ℕ → Option ℕ
+continued base number [] = Some number
+continued base number (d ∷ ds) = option_and_then (λ n. continued base n ds) (longer base number d)
 
 -- the number that digits write to a base
-unfoldable pub number_of : ℕ → List ℕ → ℕ
-number_of base digits = cond (eqb (length digits) 0) none (foldl (longer base) 0 digits)
+abbrev pub number_of : ℕ → List ℕ → Option ℕ
+number_of base digits = cond (eqb (length digits) 0) None (continued base 0 digits)
 
 -- the decimal number that a word of a line is
-unfoldable pub number_at : ℕ → List ℕ → ℕ
+abbrev pub number_at : ℕ → List ℕ → Option ℕ
 number_at index line = number_of 10 (word_at index line)

@@ -1,13 +1,14 @@
 -- Runs of words.
 -- Assumes nothing.
-use Rattle.std.specs.Prelude.{ℕ, suc, ◌+◌, cond, List, [], ◌∷◌, eqb}
+use Rattle.std.specs.Prelude.{ℕ, suc, Bool, cond, List, [], ◌∷◌}
 
--- how many words after one are each so much more than the one before
-unfoldable pub further : ℕ → ℕ → List ℕ → ℕ
-further step word [] = 0
-further step word (x ∷ xs) = cond (eqb x (word + step)) (suc (further step x xs)) 0
+module _ {A : Type 0} (follows : A → A → Bool) where
+  -- how many words after one each go with the word before
+  unfoldable pub further : A → List A → ℕ
+  further word [] = 0
+  further word (x ∷ xs) = cond (follows word x) (suc (further x xs)) 0
 
--- how many from the first on
-unfoldable pub run_length : ℕ → List ℕ → ℕ
-run_length step [] = 0
-run_length step (x ∷ xs) = suc (further step x xs)
+  -- how many from the first on
+  unfoldable pub run_length : List A → ℕ
+  run_length [] = 0
+  run_length (x ∷ xs) = suc (further x xs)

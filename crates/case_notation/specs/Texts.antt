@@ -1,27 +1,25 @@
 -- Texts in the table.
 -- Assumes nothing.
-use Rattle.std.specs.Prelude.{ℕ, zero, suc, cond, eqb, leb, length}
-use mathlib.Core.List.{List, [], ◌++◌, map, flat_map}
-use Rattle.case_notation.specs.Fields.{part_before, part_after, words_of}
+use Rattle.std.specs.Prelude.{ℕ, cond, Some, None, List, [], ◌∷◌, eqb, map, replicate}
+use Rattle.std.specs.List.{flat_map}
+use Rattle.std.specs.Option.{unwrap_or}
+use Rattle.case_notation.specs.Fields.{split_once, words_of}
 use Rattle.case_notation.specs.Numbers.{number_of}
 
 -- ; is the line feed, _ the blank, ^ the carriage return, and any other byte itself
-unfoldable pub byte_meant : ℕ → ℕ
+abbrev pub byte_meant : ℕ → ℕ
 byte_meant b = cond (eqb b 59) 10 (cond (eqb b 95) 32 (cond (eqb b 94) 13 b))
 
--- a list so many times
-unfoldable pub times : ℕ → List ℕ → List ℕ
-times zero bytes = []
-times (suc n) bytes = bytes ++ times n bytes
+-- how many times a piece stands there whose count is no number: 2 to the power 32
+abbrev pub too_many : ℕ
+too_many = 4294967296
 
--- a piece stands for its bytes, and one with a star (42) for those after it, as many times as the
--- number before it says
-unfoldable pub piece_meant : List ℕ → List ℕ
-piece_meant piece =
-    cond (leb (length piece) (length (part_before 42 piece)))
-    (map byte_meant piece)
-    (times (number_of 10 (part_before 42 piece)) (map byte_meant (part_after 42 piece)))
+-- a piece stands there once, and one with a star (42) stands for what follows the star, as many
+-- times as the number before it says
+abbrev pub copies : List ℕ → List (List ℕ)
+copies piece =
+    elim (split_once 42 piece) [ None ↦ piece ∷ [] | Some (count, bytes) ↦ replicate (unwrap_or (number_of 10 count) too_many) bytes ]
 
--- a text stands for what its pieces do, one after the other
-unfoldable pub text_meant : List ℕ → List ℕ
-text_meant text = flat_map piece_meant (words_of text)
+-- a text stands for what the bytes of its pieces do, one after the other
+abbrev pub text_meant : List ℕ → List ℕ
+text_meant text = map byte_meant (flat_map (λ bytes. bytes) (flat_map copies (words_of text)))

@@ -1,67 +1,94 @@
-// The words of a line.
-ghost use Rattle.std.specs.Prelude.{◌≡◌, ◌+◌, min, length, drop};
-ghost use Rattle.case_notation.specs.Fields.{part_before, part_after, rest_after, word_at};
+// The parts of a text, as the words of a line.
+ghost use Rattle.std.specs.Prelude.{◌≡◌, ◌==◌, option_map, position};
+ghost use Rattle.std.specs.Iterator.{YieldsFirstRef, item_count};
+ghost use Rattle.case_notation.specs.Fields.{part_before, part_after, split_once, parts_of, rest_after, word_at};
 
-// Where the first such byte stands, or the length of a text that has none.
-fn find(text: &[u8], byte: u8) -> usize
-    ensures { result ≡ length (part_before byte text.now) }
+// Where the first such byte stands.
+fn find(text: &[u8], byte: u8) -> Option<usize>
+    ensures { result ≡ position (λ b. b == byte) text.now }
 {
-    for (at, x) in text.iter().enumerate() {
-        if *x == byte {
-            return at;
+    text.iter().position(|b| *b == byte)
+}
+
+// What stands before the first such byte and what stands after it.
+pub fn split_once(text: &[u8], byte: u8) -> Option<(&[u8], &[u8])>
+    ensures { option_map (λ p. (p.0.now, p.1.now)) result ≡ split_once byte text.now }
+{
+    let at = find(text, byte)?;
+    Some((&text[..at], &text[at + 1..]))
+}
+
+// The same of any text: all of one that has no such byte stands before it.
+pub fn cut(text: &[u8], byte: u8) -> (&[u8], &[u8])
+    ensures before { result.0.now ≡ part_before byte text.now }
+    ensures after { result.1.now ≡ part_after byte text.now }
+{
+    split_once(text, byte).unwrap_or((text, &[]))
+}
+
+// The parts of a text, each of which ends before such a byte or with the text.
+#[derive(Drop)]
+pub struct Parts<'a> {
+    pub rest: &'a [u8],
+    pub separator: u8,
+}
+
+impl<'a> Iterator for Parts<'a> {
+    type Item = &'a [u8];
+
+    ghost next_gives = { YieldsFirstRef (λ s. parts_of s.separator s.rest.now) };
+
+    ghost remaining = { item_count (λ s. parts_of s.separator s.rest.now) };
+
+    #[tactic(auto, using(crate::proofs::laws::Parts::parts_first), unfolding(crate::specs::Fields::parts_of))]
+    fn next(&mut self) -> Option<&'a [u8]> {
+        if self.rest.is_empty() {
+            return None;
         }
-    }
-    text.len()
-}
-
-// What stands before the first such byte: all of a text that has none.
-pub fn before(text: &[u8], byte: u8) -> &[u8]
-    ensures { result.now ≡ part_before byte text.now }
-{
-    let end = find(text, byte);
-    &text[0..end]
-}
-
-// What stands after it: nothing of a text that has none.
-pub fn after(text: &[u8], byte: u8) -> &[u8]
-    ensures { result.now ≡ part_after byte text.now }
-{
-    let end = find(text, byte);
-    if end < text.len() {
-        &text[end + 1..]
-    } else {
-        &text[end..]
+        let (part, rest) = cut(self.rest, self.separator);
+        self.rest = rest;
+        Some(part)
     }
 }
 
-// Where the word after the one at an index begins, or the end of the text.
-pub fn next(text: &[u8], at: usize) -> usize
-    ensures { result ≡ min (length text.now) (at + 1 + length (part_before 32 (drop at text.now))) }
+// The words of a text, which have a blank between two.
+pub fn words(text: &[u8]) -> Parts<'_>
+    ensures text { result.rest.now ≡ text.now }
+    ensures blank { result.separator ≡ 32 }
 {
-    if text.len() <= at {
-        return text.len();
+    Parts {
+        rest: text,
+        separator: b' ',
     }
-    let end = at + before(&text[at..], b' ').len();
-    if end < text.len() { end + 1 } else { end }
+}
+
+// The lines of a text.
+pub fn lines(text: &[u8]) -> Parts<'_>
+    ensures text { result.rest.now ≡ text.now }
+    ensures line_feed { result.separator ≡ 10 }
+{
+    Parts {
+        rest: text,
+        separator: b'\n',
+    }
 }
 
 // What follows so many words.
+#[tactic(auto, using(crate::proofs::laws::Parts::rest_less), unfolding(crate::specs::Fields::rest_after))]
 pub fn rest(line: &[u8], words: usize) -> &[u8]
     ensures { result.now ≡ rest_after words line.now }
 {
-    let mut at = 0;
-    let mut left = words;
-    while 0 < left {
-        at = next(line, at);
-        left -= 1;
+    let mut rest = line;
+    for _ in 0..words {
+        (_, rest) = cut(rest, b' ');
     }
-    &line[at..]
+    rest
 }
 
 // The word that follows so many.
-#[tactic(auto, unfolding(crate::specs::Fields::word_at))]
 pub fn word(line: &[u8], index: usize) -> &[u8]
     ensures { result.now ≡ word_at index line.now }
 {
-    before(rest(line, index), b' ')
+    let (word, _) = cut(rest(line, index), b' ');
+    word
 }

@@ -1,75 +1,36 @@
-// Lists in the table, and lists as words of 64 bits.
-ghost use Rattle.std.specs.Prelude.{◌≡◌, ◌≤◌, ◌<◌, length};
-ghost use Rattle.case_notation.specs.Unfolding.{Appended};
-ghost use Rattle.case_notation.specs.Numbers.{none};
-ghost use Rattle.case_notation.specs.WordLists.{word_of, between, run_meant, list_meant};
+// Lists in the table, whose words have 32 bits.
+ghost use Rattle.std.specs.Prelude.{◌≡◌, ◌<◌, ◌^◌, false};
+ghost use Rattle.std.specs.Range.{range_inclusive_start, range_inclusive_end, range_inclusive_exhausted};
+ghost use Rattle.case_notation.specs.Filling.{Filled};
+ghost use Rattle.case_notation.specs.WordLists.{word_of, ends, list_meant};
 
-use crate::fields::{after, before, next};
-use crate::numbers::{NONE, number};
+use crate::fields::{split_once, words};
+use crate::filling::fill;
+use crate::numbers::number;
+use std::ops::RangeInclusive;
 
 // The word that eight digits write, or 0.
-#[tactic(auto, unfolding(crate::specs::WordLists::word_of))]
-fn word_of(digits: &[u8]) -> u64
+fn word_of(digits: &[u8]) -> u32
     ensures { result ≡ word_of digits.now }
 {
-    number(digits, 16) % NONE
+    number(digits, 16).unwrap_or(0)
 }
 
-// Puts the words from one to another into a list from an index on, as many as it has room for, and
-// answers the index after them.
-fn append_rising(list: &mut [u32], from: usize, first: u64, last: u64) -> usize
-    requires { (from ≤ length list.old) × (last < none) }
-    ensures { Appended list.old from (between first last) list.new result }
+// A word alone, or the words from one to another.
+fn run(run: &[u8]) -> RangeInclusive<u32>
+    ensures from_to { (range_inclusive_start result, range_inclusive_end result) ≡ ends run.now }
+    ensures within { range_inclusive_end result < 2 ^ 32 }
+    ensures whole { range_inclusive_exhausted result ≡ false }
 {
-    let mut at = from;
-    let mut word = first;
-    while word <= last {
-        if list.len() <= at {
-            return at;
-        }
-        list[at] = word as u32;
-        at += 1;
-        word += 1;
-    }
-    at
+    let (first, last) = split_once(run, b'-').unwrap_or((run, run));
+    word_of(first)..=word_of(last)
 }
 
-// The same of a word, or of the words from one to another.
-fn append_run(list: &mut [u32], from: usize, run: &[u8]) -> usize
-    requires { from ≤ length list.old }
-    ensures { Appended list.old from (run_meant run.now) list.new result }
+// Puts the words of a list into a buffer, as many as it has room for, and answers how many, if they
+// are all.
+#[tactic(auto, using(crate::proofs::laws::Ranges::few_left))]
+pub fn unfold(text: &[u8], list: &mut [u32]) -> Option<usize>
+    ensures { Filled list.old (list_meant text.now) list.new result }
 {
-    let first = before(run, b'-');
-    if run.len() <= first.len() {
-        return append_rising(list, from, word_of(run), word_of(run));
-    }
-    append_rising(list, from, word_of(first), word_of(after(run, b'-')))
-}
-
-// Puts the words of a list into a buffer, as many as it has room for, and answers how many.
-pub fn unfold(text: &[u8], list: &mut [u32]) -> usize
-    ensures { Appended list.old 0 (list_meant text.now) list.new result }
-{
-    let mut count = 0;
-    let mut at = 0;
-    while at < text.len() {
-        count = append_run(list, count, before(&text[at..], b' '));
-        at = next(text, at);
-    }
-    count
-}
-
-// Puts a list into a buffer of wider words, as many as it has room for, and answers how many.
-pub fn widen(list: &[u32], words: &mut [u64]) -> usize
-    ensures { Appended words.old 0 list.now words.new result }
-{
-    let mut at = 0;
-    while at < list.len() {
-        if words.len() <= at {
-            return at;
-        }
-        words[at] = list[at] as u64;
-        at += 1;
-    }
-    at
+    fill(list, words(text).flat_map(run))
 }

@@ -1,85 +1,47 @@
 // Texts in the table.
-ghost use Rattle.std.specs.Prelude.{◌≡◌, ◌≤◌, map, length};
-ghost use Rattle.case_notation.specs.Unfolding.{Appended};
-ghost use Rattle.case_notation.specs.Texts.{byte_meant, times, piece_meant, text_meant};
+ghost use Rattle.std.specs.Prelude.{◌≡◌, ◌<◌, ◌^◌, replicate};
+ghost use Rattle.std.specs.Iterator.Adapters.{repeat_n_item, repeat_n_count};
+ghost use Rattle.case_notation.specs.Filling.{Filled};
+ghost use Rattle.case_notation.specs.Texts.{byte_meant, copies, text_meant};
 
-use crate::fields::{after, before, next};
+use crate::fields::{split_once, words};
+use crate::filling::fill;
 use crate::numbers::number;
+use std::iter::{RepeatN, repeat_n};
+
+// How many times a piece stands there whose count is no number: more than any buffer takes.
+const TOO_MANY: usize = 4294967296;
 
 // The byte that a byte of a text stands for.
-#[tactic(auto, unfolding(crate::specs::Texts::byte_meant))]
 fn meant(byte: u8) -> u8
     ensures { result ≡ byte_meant byte }
 {
-    if byte == b';' {
-        return b'\n';
+    match byte {
+        b';' => b'\n',
+        b'_' => b' ',
+        b'^' => b'\r',
+        _ => byte,
     }
-    if byte == b'_' {
-        return b' ';
-    }
-    if byte == b'^' {
-        return b'\r';
-    }
-    byte
 }
 
-// Puts what some bytes stand for into a buffer from an index on, as much as it has room for, and
-// answers the index after it.
-fn append(buffer: &mut [u8], from: usize, bytes: &[u8]) -> usize
-    requires { from ≤ length buffer.old }
-    ensures { Appended buffer.old from (map byte_meant bytes.now) buffer.new result }
+// The bytes of a piece, as many times as it says.
+fn copies(piece: &[u8]) -> RepeatN<&[u8]>
+    ensures copies { replicate (repeat_n_count result) (repeat_n_item result).now ≡ copies piece.now }
+    ensures few { repeat_n_count result < 2 ^ 64 }
 {
-    let mut at = from;
-    let mut i = 0;
-    while i < bytes.len() {
-        if buffer.len() <= at {
-            return at;
+    match split_once(piece, b'*') {
+        Some((count, bytes)) => {
+            repeat_n(bytes, number(count, 10).map_or(TOO_MANY, |n| n as usize))
         }
-        buffer[at] = meant(bytes[i]);
-        at += 1;
-        i += 1;
+        None => repeat_n(piece, 1),
     }
-    at
 }
 
-// The same so many times.
-fn append_times(buffer: &mut [u8], from: usize, bytes: &[u8], count: u64) -> usize
-    requires { from ≤ length buffer.old }
-    ensures { Appended buffer.old from (times count (map byte_meant bytes.now)) buffer.new result }
+// Puts the bytes of a text into a buffer, as many as it has room for, and answers how many, if they
+// are all.
+pub fn unfold(text: &[u8], buffer: &mut [u8]) -> Option<usize>
+    ensures { Filled buffer.old (text_meant text.now) buffer.new result }
 {
-    let mut at = from;
-    let mut left = count;
-    while 0 < left {
-        if buffer.len() <= at {
-            return at;
-        }
-        at = append(buffer, at, bytes);
-        left -= 1;
-    }
-    at
-}
-
-// The same of a piece, which may say how many times.
-fn append_piece(buffer: &mut [u8], from: usize, piece: &[u8]) -> usize
-    requires { from ≤ length buffer.old }
-    ensures { Appended buffer.old from (piece_meant piece.now) buffer.new result }
-{
-    let count = before(piece, b'*');
-    if piece.len() <= count.len() {
-        return append(buffer, from, piece);
-    }
-    append_times(buffer, from, after(piece, b'*'), number(count, 10))
-}
-
-// Puts the bytes of a text into a buffer, as many as it has room for, and answers how many.
-pub fn unfold(text: &[u8], buffer: &mut [u8]) -> usize
-    ensures { Appended buffer.old 0 (text_meant text.now) buffer.new result }
-{
-    let mut count = 0;
-    let mut at = 0;
-    while at < text.len() {
-        count = append_piece(buffer, count, before(&text[at..], b' '));
-        at = next(text, at);
-    }
-    count
+    let bytes = words(text).flat_map(copies).flat_map(|bytes| bytes.iter());
+    fill(buffer, bytes.map(|byte| meant(*byte)))
 }

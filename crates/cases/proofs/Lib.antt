@@ -1,3 +1,1 @@
-pub mod Opened
 pub mod Examples
-pub mod laws

@@ -1,38 +1,27 @@
 -- The calls by name.
 -- Assumes nothing.
-use Rattle.std.specs.Prelude.{ℕ, Bool, true, false, cond, ◌&&◌, List, [], ◌∷◌, eqb}
-use Rattle.foundation.specs.Text.{bytes}
+use Rattle.std.specs.Prelude.{ℕ, Option, List, [], ◌∷◌, codes, find, bytes_eq}
 use Rattle.cases.specs.declared.calls.Call.{Call}
-use Rattle.cases.specs.declared.calls.Call.TheVariants.{Check, Replay, Judge, Search, List as ListCall, Twice, Reduce, Write, Report, Unknown}
-
--- two texts have the same bytes
-unfoldable pub same_bytes : List ℕ → List ℕ → Bool
-same_bytes [] [] = true
-same_bytes (x ∷ xs) (y ∷ ys) = eqb x y && same_bytes xs ys
-same_bytes [] (y ∷ ys) = false
-same_bytes (x ∷ xs) [] = false
+use Rattle.cases.specs.declared.calls.Call.TheVariants.{Check, Replay, Judge, Search, List as ListCall, Twice, Reduce, Write, Report}
 
 -- the calls by their names
-abbrev pub named_calls : List (List ℕ × Call)
-named_calls =
-    (bytes "check", Check)
-    ∷ (bytes "replay", Replay)
-    ∷ (bytes "judge", Judge)
-    ∷ (bytes "search", Search)
-    ∷ (bytes "list", ListCall)
-    ∷ (bytes "twice", Twice)
-    ∷ (bytes "reduce", Reduce)
-    ∷ (bytes "write", Write)
-    ∷ (bytes "report", Report)
-    ∷ []
+abbrev pub name : Call → List ℕ
+name Check = codes "check"
+name Replay = codes "replay"
+name Judge = codes "judge"
+name Search = codes "search"
+name ListCall = codes "list"
+name Twice = codes "twice"
+name Reduce = codes "reduce"
+name Write = codes "write"
+name Report = codes "report"
 
--- the first call of that name
-unfoldable pub first_named : List ℕ → List (List ℕ × Call) → Call
-first_named name [] = Unknown
-first_named name (c ∷ calls) = cond (same_bytes name c.0) c.1 (first_named name calls)
+abbrev pub all_calls : List Call
+all_calls = Check ∷ Replay ∷ Judge ∷ Search ∷ ListCall ∷ Twice ∷ Reduce ∷ Write ∷ Report ∷ []
 
-unfoldable pub call_named : List ℕ → Call
-call_named name = first_named name named_calls
+-- the call of a name
+abbrev pub call_named : List ℕ → Option Call
+call_named text = find (λ call. bytes_eq (name call) text) all_calls
 
 -- how many words of a line stand before its text or list
 abbrev pub leading_words : Call → ℕ
@@ -45,4 +34,3 @@ leading_words Twice = 13
 leading_words Reduce = 2
 leading_words Write = 2
 leading_words Report = 2
-leading_words Unknown = 1

@@ -1,17 +1,16 @@
 // The calls that search, with and without the reduction of what is found.
-ghost use Rattle.std.specs.Prelude.{◌≡◌, ◌≤◌};
-ghost use Rattle.cases.specs.Arguments.{settings_fit, settings_in, resources_at};
+ghost use Rattle.std.specs.Prelude.{◌≡◌, ◌≤◌, option_map};
+ghost use Rattle.cases.specs.Arguments.{resources_in};
 
-use crate::rewrites::reduced;
-use assurance::list_twice;
+use crate::arguments::{room_at, settings_in};
+use crate::rewrites::reduced_count;
+use assurance::{BothListings, list_twice};
+use case_notation::fields::rest;
 use case_notation::numbers::argument;
-use case_output::{
-    LIST_FILL, begin_line, cache_line, end_line, field, found_line, not_a_case, reduced_line,
-    refusal,
-};
+use case_output::{LIST_FILL, refusal, words_line};
 use discovery::discover;
-use discovery_spec::{Discovered, Run};
-use limits::Settings;
+use discovery_spec::Run;
+use limits::Refusal;
 use listing::{Listing, list_places};
 use std::io;
 use std::io::Write;
@@ -26,138 +25,46 @@ const LIST_WORDS: usize = 320;
 // What a cache is filled with: a word that would rule every candidate if it were read.
 const CACHE_FILL: u64 = 0x3FFFF0000;
 
-// The largest budget of 32 bits.
-const MOST_BUDGET: u64 = 4294967295;
-
-// Whether the words after the call's name are numbers that settings can be.
-#[tactic(auto, unfolding(crate::specs::Arguments::settings_fit))]
-fn settings_fit(line: &[u8]) -> bool
-    ensures { result ≡ settings_fit line.now }
-{
-    if 255 < argument(line, 1) {
-        return false;
-    }
-    if 255 < argument(line, 2) {
-        return false;
-    }
-    if 255 < argument(line, 3) {
-        return false;
-    }
-    argument(line, 4) <= 65535
-}
-
-#[tactic(auto, unfolding(crate::specs::Arguments::settings_in))]
-fn settings_in(line: &[u8]) -> Settings
-    ensures { result ≡ settings_in line.now }
-{
-    Settings {
-        activities: (argument(line, 1) % 256) as u8,
-        inputs: (argument(line, 2) % 256) as u8,
-        outputs: (argument(line, 3) % 256) as u8,
-        threshold: (argument(line, 4) % 65536) as u16,
-    }
-}
-
 fn run_line<W: Write>(out: &mut W, run: Run) -> io::Result<()> {
-    begin_line(out)?;
-    field(out, b"end", run.end)?;
-    field(out, b"found", run.found as u64)?;
-    field(out, b"rejected", run.rejected as u64)?;
-    field(out, b"replays", run.replays as u64)?;
-    field(out, b"visits", run.visits as u64)?;
-    end_line(out)
-}
-
-fn discovered<W: Write>(out: &mut W, answer: Discovered) -> io::Result<()> {
-    match answer {
-        Discovered::Ran(run) => run_line(out, run),
-        Discovered::Refused(why) => refusal(out, why),
-    }
+    let end = run.end.number();
+    writeln!(
+        out,
+        "  end {end} found {} rejected {} replays {} visits {}",
+        run.found, run.rejected, run.replays, run.visits
+    )
 }
 
 // The answer and the buffers of a search.
 fn search_lines<W: Write>(
     out: &mut W,
-    answer: Discovered,
+    answer: Result<Run, Refusal>,
     rejected: &[u64; CACHE_WORDS],
     found: &[u32; SEARCH_WORDS],
 ) -> io::Result<()> {
-    discovered(out, answer)?;
-    found_line(out, found)?;
-    cache_line(out, rejected)
+    match answer {
+        Ok(run) => run_line(out, run)?,
+        Err(why) => refusal(out, why)?,
+    }
+    words_line(out, "list", found)?;
+    words_line(out, "cache", rejected)
 }
 
 // search A mi mo T cache list budget text
-pub fn search<W: Write>(out: &mut W, line: &[u8], text: &[u8]) -> io::Result<()> {
-    let cache = argument(line, 5) as usize;
-    let list = argument(line, 6) as usize;
-    let budget = argument(line, 7);
-    if CACHE_WORDS < cache || SEARCH_WORDS < list || MOST_BUDGET < budget || !settings_fit(line) {
-        return not_a_case(out);
-    }
+pub fn search<W: Write>(out: &mut W, line: &[u8], text: &[u8]) -> Option<io::Result<()>> {
+    let settings = settings_in(line)?;
+    let cache = room_at(line, 5, CACHE_WORDS)?;
+    let list = room_at(line, 6, SEARCH_WORDS)?;
+    let budget = argument(line, 7)?;
     let mut rejected = [CACHE_FILL; CACHE_WORDS];
     let mut found = [LIST_FILL; SEARCH_WORDS];
     let answer = discover(
-        settings_in(line),
+        settings,
         text,
-        budget as u32,
-        &mut rejected[0..cache],
-        &mut found[0..list],
+        budget,
+        &mut rejected[..cache],
+        &mut found[..list],
     );
-    search_lines(out, answer, &rejected, &found)
-}
-
-fn listed<W: Write>(out: &mut W, answer: Listing) -> io::Result<()> {
-    match answer {
-        Listing::Refused(why) => refusal(out, why),
-        Listing::Incomplete(run) => run_line(out, run),
-        Listing::Complete { run, reduced: kept } => {
-            run_line(out, run)?;
-            reduced(out, kept)
-        }
-    }
-}
-
-// The answer and the buffers of one listing.
-fn listing_lines<W: Write>(
-    out: &mut W,
-    answer: Listing,
-    rejected: &[u64; CACHE_WORDS],
-    found: &[u32; LIST_WORDS],
-    kept: &[u32; LIST_WORDS],
-) -> io::Result<()> {
-    listed(out, answer)?;
-    found_line(out, found)?;
-    cache_line(out, rejected)?;
-    reduced_line(out, kept)
-}
-
-// list A mi mo T cache list reduced budget text
-pub fn list<W: Write>(out: &mut W, line: &[u8], text: &[u8]) -> io::Result<()> {
-    let cache = argument(line, 5) as usize;
-    let list = argument(line, 6) as usize;
-    let room = argument(line, 7) as usize;
-    let budget = argument(line, 8);
-    if CACHE_WORDS < cache
-        || LIST_WORDS < list
-        || LIST_WORDS < room
-        || MOST_BUDGET < budget
-        || !settings_fit(line)
-    {
-        return not_a_case(out);
-    }
-    let mut rejected = [CACHE_FILL; CACHE_WORDS];
-    let mut found = [LIST_FILL; LIST_WORDS];
-    let mut kept = [LIST_FILL; LIST_WORDS];
-    let answer = list_places(
-        settings_in(line),
-        text,
-        budget as u32,
-        &mut rejected[0..cache],
-        &mut found[0..list],
-        &mut kept[0..room],
-    );
-    listing_lines(out, answer, &rejected, &found, &kept)
+    Some(search_lines(out, answer, &rejected, &found))
 }
 
 // What a listing is lent: how much of each buffer, and its budget.
@@ -166,83 +73,111 @@ struct Resources {
     cache: usize,
     list: usize,
     reduced: usize,
-    budget: u64,
+    budget: u32,
+    ghost within: { (cache ≤ 640) × (list ≤ 320) × (reduced ≤ 320) },
 }
 
-#[tactic(auto, unfolding(crate::specs::Arguments::resources_at))]
-fn resources_at(line: &[u8], index: usize) -> Resources
-    requires { index ≤ 9 }
-    ensures { result ≡ resources_at index line.now }
-{
-    Resources {
-        cache: argument(line, index) as usize,
-        list: argument(line, index + 1) as usize,
-        reduced: argument(line, index + 2) as usize,
-        budget: argument(line, index + 3),
+impl Resources {
+    // What four words say.
+    fn read(words: &[u8]) -> Option<Self>
+        ensures { option_map (λ r. (r.cache, r.list, r.reduced, r.budget)) result
+            ≡ resources_in words.now }
+    {
+        Some(Resources {
+            cache: room_at(words, 0, CACHE_WORDS)?,
+            list: room_at(words, 1, LIST_WORDS)?,
+            reduced: room_at(words, 2, LIST_WORDS)?,
+            budget: argument(words, 3)?,
+        })
     }
 }
 
-// Both listings, in the fronts of their buffers.
-fn list_both<W: Write>(
+// The buffers of a listing.
+#[derive(Drop)]
+struct Buffers {
+    rejected: [u64; CACHE_WORDS],
+    found: [u32; LIST_WORDS],
+    kept: [u32; LIST_WORDS],
+}
+
+impl Buffers {
+    fn new() -> Self {
+        Buffers {
+            rejected: [CACHE_FILL; CACHE_WORDS],
+            found: [LIST_FILL; LIST_WORDS],
+            kept: [LIST_FILL; LIST_WORDS],
+        }
+    }
+}
+
+fn listing_line<W: Write>(out: &mut W, answer: Result<Listing, Refusal>) -> io::Result<()> {
+    match answer {
+        Ok(Listing::Incomplete(run)) => run_line(out, run),
+        Ok(Listing::Complete { run, reduced }) => {
+            run_line(out, run)?;
+            reduced_count(out, reduced)
+        }
+        Err(why) => refusal(out, why),
+    }
+}
+
+// The answer and the buffers of one listing.
+fn listing_lines<W: Write>(
     out: &mut W,
-    settings: Settings,
-    text: &[u8],
-    first: Resources,
-    second: Resources,
-) -> io::Result<()>
-    requires first_within { (first.cache ≤ 640) × (first.list ≤ 320) × (first.reduced ≤ 320) × (first.budget ≤ 4294967295) }
-    requires second_within { (second.cache ≤ 640) × (second.list ≤ 320) × (second.reduced ≤ 320) × (second.budget ≤ 4294967295) }
-{
-    let mut rejected1 = [CACHE_FILL; CACHE_WORDS];
-    let mut found1 = [LIST_FILL; LIST_WORDS];
-    let mut kept1 = [LIST_FILL; LIST_WORDS];
-    let mut rejected2 = [CACHE_FILL; CACHE_WORDS];
-    let mut found2 = [LIST_FILL; LIST_WORDS];
-    let mut kept2 = [LIST_FILL; LIST_WORDS];
-    let cache1 = first.cache;
-    let list1 = first.list;
-    let room1 = first.reduced;
-    let cache2 = second.cache;
-    let list2 = second.list;
-    let room2 = second.reduced;
-    let both = list_twice(
+    answer: Result<Listing, Refusal>,
+    buffers: &Buffers,
+) -> io::Result<()> {
+    listing_line(out, answer)?;
+    words_line(out, "list", &buffers.found)?;
+    words_line(out, "cache", &buffers.rejected)?;
+    words_line(out, "reduced", &buffers.kept)
+}
+
+// list A mi mo T cache list reduced budget text
+pub fn list<W: Write>(out: &mut W, line: &[u8], text: &[u8]) -> Option<io::Result<()>> {
+    let settings = settings_in(line)?;
+    let resources = Resources::read(rest(line, 5))?;
+    let mut buffers = Buffers::new();
+    let answer = list_places(
         settings,
         text,
-        first.budget as u32,
-        &mut rejected1[0..cache1],
-        &mut found1[0..list1],
-        &mut kept1[0..room1],
-        second.budget as u32,
-        &mut rejected2[0..cache2],
-        &mut found2[0..list2],
-        &mut kept2[0..room2],
+        resources.budget,
+        &mut buffers.rejected[..resources.cache],
+        &mut buffers.found[..resources.list],
+        &mut buffers.kept[..resources.reduced],
     );
-    let answer1 = both.first;
-    let answer2 = both.second;
-    listing_lines(out, answer1, &rejected1, &found1, &kept1)?;
-    listing_lines(out, answer2, &rejected2, &found2, &kept2)
+    Some(listing_lines(out, answer, &buffers))
+}
+
+// The answers and the buffers of two listings.
+fn both_lines<W: Write>(
+    out: &mut W,
+    both: BothListings,
+    first: &Buffers,
+    second: &Buffers,
+) -> io::Result<()> {
+    listing_lines(out, both.first, first)?;
+    listing_lines(out, both.second, second)
 }
 
 // twice A mi mo T cache list reduced budget cache list reduced budget text
-pub fn twice<W: Write>(out: &mut W, line: &[u8], text: &[u8]) -> io::Result<()> {
-    let first = resources_at(line, 5);
-    let second = resources_at(line, 9);
-    if CACHE_WORDS < first.cache
-        || LIST_WORDS < first.list
-        || LIST_WORDS < first.reduced
-        || MOST_BUDGET < first.budget
-    {
-        return not_a_case(out);
-    }
-    if CACHE_WORDS < second.cache
-        || LIST_WORDS < second.list
-        || LIST_WORDS < second.reduced
-        || MOST_BUDGET < second.budget
-    {
-        return not_a_case(out);
-    }
-    if !settings_fit(line) {
-        return not_a_case(out);
-    }
-    list_both(out, settings_in(line), text, first, second)
+pub fn twice<W: Write>(out: &mut W, line: &[u8], text: &[u8]) -> Option<io::Result<()>> {
+    let settings = settings_in(line)?;
+    let resources1 = Resources::read(rest(line, 5))?;
+    let resources2 = Resources::read(rest(line, 9))?;
+    let mut first = Buffers::new();
+    let mut second = Buffers::new();
+    let both = list_twice(
+        settings,
+        text,
+        resources1.budget,
+        &mut first.rejected[..resources1.cache],
+        &mut first.found[..resources1.list],
+        &mut first.kept[..resources1.reduced],
+        resources2.budget,
+        &mut second.rejected[..resources2.cache],
+        &mut second.found[..resources2.list],
+        &mut second.kept[..resources2.reduced],
+    );
+    Some(both_lines(out, both, &first, &second))
 }

@@ -31,31 +31,14 @@
 // and its answer says so.
 #![tactic(auto)]
 
-ghost use Rattle.std.specs.Prelude.{◌≤◌, length, IfOk};
-
+use input::read_full;
 use std::io;
-use std::io::Read;
 
+mod arguments; // arguments.rt: what the words of a line say
 mod calls; // calls.rt: the calls by name, and a line of the table
 mod listings; // listings.rt: the calls that search
 mod logs; // logs.rt: the calls that answer numbers alone
 mod rewrites; // rewrites.rt: the calls that write a list again, or as text
-
-// Reads into a buffer from its front, until the input ends or the buffer is full, and answers how
-// much it read. A read may give less than there is, so the next goes on behind it.
-fn read_full<R: Read>(reader: &mut R, buffer: &mut [u8]) -> io::Result<usize>
-    ensures { IfOk result (λ count. count ≤ length buffer.new) }
-{
-    let mut count = 0;
-    while count < buffer.len() {
-        let more = reader.read(&mut buffer[count..])?;
-        if more == 0 {
-            return Ok(count);
-        }
-        count += more;
-    }
-    Ok(count)
-}
 
 // A read or a write that fails ends the program with its error.
 fn main(rt: HostRuntime) -> io::Result<()> {

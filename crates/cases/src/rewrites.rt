@@ -1,17 +1,21 @@
 // The calls that write a list again without its redundant places, or as text, and the one that does
 // all of placelist.
+use crate::arguments::room_at;
 use case_notation::fields::rest;
 use case_notation::lists::unfold;
-use case_notation::numbers::argument;
-use case_output::{
-    LIST_FILL, MOST_WORDS, field_line, not_a_case, reduced_line, refusal, text_line,
-};
+use case_output::{LIST_FILL, refusal, text_line, words_line};
+use limits::Refusal;
 use reduction::reduce;
-use reduction_spec::Reduced;
 use reporter::report_places;
 use std::io;
 use std::io::Write;
-use writer::{Written, write_places};
+use writer::write_places;
+
+// The room for the list of a line, and the words of the buffer for a reduced one: more than the most
+// words of a list.
+const LIST_ROOM: usize = 4159;
+
+const KEPT_WORDS: usize = 4160;
 
 // The bytes of a text that a call writes, more than the longest output of the program, and what it
 // is filled with.
@@ -20,43 +24,50 @@ const TEXT_BYTES: usize = 36900;
 const TEXT_FILL: u8 = b'~';
 
 // What a reduction answers.
-pub fn reduced<W: Write>(out: &mut W, answer: Reduced) -> io::Result<()> {
+pub fn reduced_count<W: Write>(out: &mut W, answer: Result<usize, Refusal>) -> io::Result<()> {
     match answer {
-        Reduced::Kept(count) => field_line(out, b"kept", count as u64),
-        Reduced::Refused(why) => refusal(out, why),
+        Ok(count) => writeln!(out, "  kept {count}"),
+        Err(why) => refusal(out, why),
     }
 }
 
 fn reduced_lines<W: Write>(
     out: &mut W,
-    answer: Reduced,
-    kept: &[u32; MOST_WORDS],
+    answer: Result<usize, Refusal>,
+    kept: &[u32; KEPT_WORDS],
 ) -> io::Result<()> {
-    reduced(out, answer)?;
-    reduced_line(out, kept)
+    reduced_count(out, answer)?;
+    words_line(out, "reduced", kept)
+}
+
+// The list at the end of a line.
+fn list_in<'a>(line: &[u8], list: &'a mut [u32; LIST_ROOM]) -> Option<&'a [u32]> {
+    let count = unfold(rest(line, 2), list)?;
+    Some(&list[..count])
 }
 
 // reduce reduced list
-pub fn reduce_list<W: Write>(out: &mut W, line: &[u8]) -> io::Result<()> {
-    let mut list = [0u32; MOST_WORDS];
-    let count = unfold(rest(line, 2), &mut list);
-    let room = argument(line, 1) as usize;
-    if MOST_WORDS <= count || MOST_WORDS < room {
-        return not_a_case(out);
-    }
-    let mut kept = [LIST_FILL; MOST_WORDS];
-    let answer = reduce(&list[0..count], &mut kept[0..room]);
-    reduced_lines(out, answer, &kept)
+pub fn reduce_list<W: Write>(out: &mut W, line: &[u8]) -> Option<io::Result<()>> {
+    let mut list = [0u32; LIST_ROOM];
+    let list = list_in(line, &mut list)?;
+    let room = room_at(line, 1, KEPT_WORDS)?;
+    let mut kept = [LIST_FILL; KEPT_WORDS];
+    let answer = reduce(list, &mut kept[..room]);
+    Some(reduced_lines(out, answer, &kept))
 }
 
 // What a call that writes a text answers, and the text.
-fn written<W: Write>(out: &mut W, answer: Written, text: &[u8; TEXT_BYTES]) -> io::Result<()> {
+fn written_lines<W: Write>(
+    out: &mut W,
+    answer: Result<usize, Refusal>,
+    text: &[u8; TEXT_BYTES],
+) -> io::Result<()> {
     match answer {
-        Written::Bytes(count) => {
-            field_line(out, b"bytes", count as u64)?;
+        Ok(count) => {
+            writeln!(out, "  bytes {count}")?;
             text_line(out, text, count)
         }
-        Written::Refused(why) => {
+        Err(why) => {
             refusal(out, why)?;
             text_line(out, text, 0)
         }
@@ -64,25 +75,19 @@ fn written<W: Write>(out: &mut W, answer: Written, text: &[u8; TEXT_BYTES]) -> i
 }
 
 // write text list
-pub fn write<W: Write>(out: &mut W, line: &[u8]) -> io::Result<()> {
-    let mut list = [0u32; MOST_WORDS];
-    let count = unfold(rest(line, 2), &mut list);
-    let room = argument(line, 1) as usize;
-    if MOST_WORDS <= count || TEXT_BYTES < room {
-        return not_a_case(out);
-    }
+pub fn write<W: Write>(out: &mut W, line: &[u8]) -> Option<io::Result<()>> {
+    let mut list = [0u32; LIST_ROOM];
+    let list = list_in(line, &mut list)?;
+    let room = room_at(line, 1, TEXT_BYTES)?;
     let mut text = [TEXT_FILL; TEXT_BYTES];
-    let answer = write_places(&list[0..count], &mut text[0..room]);
-    written(out, answer, &text)
+    let answer = write_places(list, &mut text[..room]);
+    Some(written_lines(out, answer, &text))
 }
 
 // report text text
-pub fn report<W: Write>(out: &mut W, line: &[u8], input: &[u8]) -> io::Result<()> {
-    let room = argument(line, 1) as usize;
-    if TEXT_BYTES < room {
-        return not_a_case(out);
-    }
+pub fn report<W: Write>(out: &mut W, line: &[u8], input: &[u8]) -> Option<io::Result<()>> {
+    let room = room_at(line, 1, TEXT_BYTES)?;
     let mut output = [TEXT_FILL; TEXT_BYTES];
-    let answer = report_places(input, &mut output[0..room]);
-    written(out, answer, &output)
+    let answer = report_places(input, &mut output[..room]);
+    Some(written_lines(out, answer, &output))
 }

@@ -1,22 +1,14 @@
 -- Which activity the search for a cover takes up next: one that the fewest words can cover. So
 -- where some activity can be covered by no word, that is seen at once.
 -- Assumes nothing.
-use Rattle.std.specs.Prelude.{ℕ, ◌+◌, ◌-◌, ◌^◌, ◌≤◌, ◌<◌, min, ◌≡◌, true, List, length, get_or}
+use Rattle.std.specs.Prelude.{ℕ, ◌+◌, ◌-◌, ◌^◌, ◌≤◌, ◌<◌, min, ◌≡◌, true, List, length, get_or, Option, None, Some}
 use Rattle.places.specs.Sets.{has}
 use Rattle.reduction_spec.specs.Cover.{Cover, choices, balanced}
 use Rattle.cover_choice.specs.declared.Tally.{Tally}
-use Rattle.cover_choice.specs.declared.Choice.{Choice}
-use Rattle.cover_choice.specs.declared.Choice.TheVariants.{Activity, Uncoverable}
 
 -- how many activities a word can have: 16 inputs and 16 outputs
 abbrev pub word_activities : ℕ
 word_activities = 32
-
--- the highest of some activities
-pub record Highest (activities a : ℕ) : Type 0 where
-  pub known : a < word_activities
-  pub there : has activities a ≡ 1
-  pub none_above : (b : ℕ) → a < b → has activities b ≡ 0
 
 -- counts of the activities of a word, each of which can grow by one
 pub record Growable (counts : List ℕ) : Type 0 where
@@ -54,6 +46,6 @@ module _ (words : List ℕ) (whole left : ℕ) where
     pub in_balance : 3 ≤ choices words whole left a → balanced words whole left ≡ true
 
   -- a right choice is such an activity; that there is none means that there is no cover
-  unfoldable pub Chosen : Choice → Type 0
-  Chosen (Activity a) = Promising a
-  Chosen Uncoverable = Cover words whole left → ⊥
+  unfoldable pub Chosen : Option ℕ → Type 0
+  Chosen (Some a) = Promising a
+  Chosen None = Cover words whole left → ⊥

@@ -11,3 +11,4 @@ pub mod TwoPhases
 pub mod AnswerLaws
 pub mod CallChecks
 pub mod AnyTwoRuns
+pub mod Ends

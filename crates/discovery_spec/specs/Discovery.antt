@@ -1,19 +1,16 @@
 -- What the search call answers and what it leaves in the two buffers that it is lent, refusals
 -- included. Document 01, "The walk".
 -- Assumes nothing.
-use Rattle.std.specs.Prelude.{ℕ, List, length}
-use Rattle.std.proofs.Math.Option.{Option, none}
+use Rattle.std.specs.Prelude.{ℕ, List, length, Option, None, Result, Ok, Err}
 use Rattle.foundation.specs.Buffers.{overwrite}
 use Rattle.limits.specs.declared.Refusal.{Refusal}
 use Rattle.limits.specs.declared.Settings.{Settings}
-use Rattle.limits.specs.Refusals.{number, value, answer}
+use Rattle.limits.specs.Refusals.{answer, answered}
 use Rattle.limits.specs.Settings.{settings_fault}
 use Rattle.places.specs.Candidates.{candidates}
 use Rattle.event_log_spec.specs.Lines.{frames_of}
 use Rattle.event_log_spec.specs.Checking.{log_refusal}
 use Rattle.replay_spec.specs.Judgement.{verdict}
-use Rattle.discovery_spec.specs.declared.Discovered.{Discovered}
-use Rattle.discovery_spec.specs.declared.Discovered.TheVariants.{Ran, Refused}
 use Rattle.discovery_spec.specs.declared.Run.{Run}
 use Rattle.discovery_spec.specs.Search.{Capacity, holding, Progress, search, end_of, state_of}
 
@@ -35,25 +32,16 @@ summary p =
 
 -- the call's refusal: 1, then 6 and the text; its buffers may have any length
 unfoldable pub run_refusal : Settings → List ℕ → Option Refusal
-run_refusal s text = log_refusal (settings_fault s) none s.activities text
+run_refusal s text = log_refusal (settings_fault s) None s.activities text
 
 -- the call's answer
-unfoldable pub discovered : Settings → List ℕ → Capacity → Discovered
-discovered s text room = answer Refused (run_refusal s text) (Ran (summary (run s text room)))
-
--- the number of an answer, 0 where the call is not refused, and the value beside it
-unfoldable pub discovered_number : Discovered → ℕ
-discovered_number (Ran run) = 0
-discovered_number (Refused r) = number r
-
-unfoldable pub discovered_value : Discovered → ℕ
-discovered_value (Ran run) = 0
-discovered_value (Refused r) = value r
+unfoldable pub discovered : Settings → List ℕ → Capacity → Result Run Refusal
+discovered s text room = answered (run_refusal s text) (summary (run s text room))
 
 -- the candidates that an answer says were replayed: none after a refusal
-unfoldable pub replays_in : Discovered → ℕ
-replays_in (Ran run) = run.replays
-replays_in (Refused r) = 0
+unfoldable pub replays_in : Result Run Refusal → ℕ
+replays_in (Ok run) = run.replays
+replays_in (Err r) = 0
 
 -- the capacity that the two buffers and the budget give a run: as much room as the buffers are
 -- long, whatever they hold

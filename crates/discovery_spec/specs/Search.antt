@@ -2,13 +2,15 @@
 -- for what is here: the shelf is the cache of rejected words, the list the found words, the
 -- allowance the replay budget, offspring are descendants, and passed over is pruned.
 -- Assumes nothing.
-use Rattle.std.specs.Prelude.{ℕ, ◌+◌, Bool, cond, List, [], ◌∷◌, ◌++◌, ltb, leb, length}
+use Rattle.std.specs.Prelude.{ℕ, ◌+◌, Bool, true, false, cond, List, [], ◌∷◌, ◌++◌, ltb, leb, length}
 use Rattle.foundation.specs.Lists.{any, foldl}
 use Rattle.places.specs.declared.Place.{Place}
 use Rattle.places.specs.Places.{word}
 use Rattle.places.specs.Candidates.{descends}
 use Rattle.replay_spec.specs.declared.Verdict.{Verdict}
 use Rattle.replay_spec.specs.declared.Verdict.TheVariants.{Fitting, Underfed, Overfed, Both}
+use Rattle.discovery_spec.specs.declared.End.{End}
+use Rattle.discovery_spec.specs.declared.End.TheVariants.{Completed, BudgetSpent, ListFull}
 use Rattle.discovery_spec.specs.Rejected.{rejected_word, ruled, ruled_overfed}
 
 -- what the caller gives a run: room for rejected words, room for found words, and the replay budget
@@ -30,20 +32,23 @@ pub record State : Type 0 where
   pub visits : ℕ
   pub pruned : List Place
 
--- how a run ends: the last candidate had its turn, the budget was spent, or the list was full
-abbrev pub completed : ℕ
-completed = 0
+-- the number of how a run ends: the last candidate had its turn, the budget was spent, or the list
+-- was full
+unfoldable pub end_number : End → ℕ
+end_number Completed = 0
+end_number BudgetSpent = 1
+end_number ListFull = 2
 
-abbrev pub budget_spent : ℕ
-budget_spent = 1
-
-abbrev pub list_full : ℕ
-list_full = 2
+-- it ended after the last candidate
+unfoldable pub is_completed : End → Bool
+is_completed Completed = true
+is_completed BudgetSpent = false
+is_completed ListFull = false
 
 -- a run goes on, or it has stopped with an end
 pub data Progress : Type 0 where
   going : State → Progress
-  stopped : ℕ → State → Progress
+  stopped : End → State → Progress
 
 -- a fresh run: no words yet, nothing counted
 unfoldable pub start : State
@@ -78,7 +83,7 @@ module _ (room : Capacity) where
   -- a fitting candidate is found; where the list is full the run stops with end 2, and the
   -- candidate stays counted
   unfoldable pub accept : Place → State → Progress
-  accept c s = cond (ltb (length s.found) room.found) (proceed c (with_found (word c) s)) (stopped list_full s)
+  accept c s = cond (ltb (length s.found) room.found) (proceed c (with_found (word c) s)) (stopped ListFull s)
 
   -- the word of one that does not fit goes into the cache, or is dropped where the cache is full
   unfoldable pub reject : Verdict → Place → State → Progress
@@ -95,7 +100,7 @@ module _ (verdict : Place → Verdict) (room : Capacity) where
   -- with the budget spent the run stops with end 1 before the candidate counts; else it is visited
   -- and replayed
   unfoldable pub replay : Place → State → Progress
-  replay c s = cond (leb room.budget s.replays) (stopped budget_spent s) (conclude room (verdict c) c (replayed_once (visited s)))
+  replay c s = cond (leb room.budget s.replays) (stopped BudgetSpent s) (conclude room (verdict c) c (replayed_once (visited s)))
 
   -- a candidate that the cache rules is visited and not replayed
   unfoldable pub visit : Place → State → Progress
@@ -111,8 +116,8 @@ module _ (verdict : Place → Verdict) (room : Capacity) where
   search cs = foldl step (going start) cs
 
 -- a run that no candidate stopped has end 0
-unfoldable pub end_of : Progress → ℕ
-end_of (going s) = completed
+unfoldable pub end_of : Progress → End
+end_of (going s) = Completed
 end_of (stopped end s) = end
 
 -- what a run has, whether it goes on or not

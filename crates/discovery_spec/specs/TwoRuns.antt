@@ -14,6 +14,7 @@ use Rattle.event_log_spec.specs.Lines.{frames_of}
 use Rattle.replay_spec.specs.declared.Verdict.{Verdict}
 use Rattle.replay_spec.specs.declared.Verdict.TheVariants.{Fitting, Underfed, Overfed, Both}
 use Rattle.replay_spec.specs.Judgement.{verdict}
+use Rattle.discovery_spec.specs.declared.End.TheVariants.{Completed}
 use Rattle.discovery_spec.specs.Search.{Capacity, end_of, state_of}
 use Rattle.discovery_spec.specs.Discovery.{run}
 
@@ -39,7 +40,7 @@ module _ (s : Settings) (text : List ℕ) where
 
   -- a run completes when its end is 0
   unfoldable pub Completes : Capacity → Type 0
-  Completes room = end_of (run s text room) ≡ 0
+  Completes room = end_of (run s text room) ≡ Completed
 
   -- the run of this capacity found exactly the fitting candidates, in their order
   unfoldable pub FoundAll : Capacity → Type 0

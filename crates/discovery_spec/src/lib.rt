@@ -1,34 +1,55 @@
 // What the search over candidates answers: document 01, "The walk". The search itself is defined in
-// specs/, and its code is in `discovery`.
+// specs/, and its code is in `discovery`. The only code is the number of an end.
 #![tactic(auto)]
 
-use limits::Refusal;
-
-// How a run ended: after the last candidate, with its replay budget spent, or with its list of
-// found places full. A whole word, since the gap after a byte would be copied for each candidate.
-pub const COMPLETED: u64 = 0;
-
-pub const BUDGET_SPENT: u64 = 1;
-
-pub const LIST_FULL: u64 = 2;
+ghost use Rattle.std.specs.Prelude.{◌≡◌};
+ghost use Rattle.discovery_spec.specs.Search.{end_number, is_completed};
 
 // What the mark of a rejected place counts for in its word: 2 to the power 32.
 pub const MARK_UNIT: u64 = 4294967296;
+
+// How a run ended: after the last candidate, with its replay budget spent, or with its list of
+// found places full.
+#[derive(Clone, Copy, Drop)]
+pub enum End {
+    Completed,
+    BudgetSpent,
+    ListFull,
+}
+
+impl End {
+    // The number of an end, 0 of a run that completed.
+    #[tactic(auto, unfolding(crate::specs::Search::end_number))]
+    pub fn number(self) -> u64
+        ensures { result ≡ end_number self }
+    {
+        match self {
+            End::Completed => 0,
+            End::BudgetSpent => 1,
+            End::ListFull => 2,
+        }
+    }
+
+    // Whether the last candidate had its turn.
+    #[tactic(auto, unfolding(crate::specs::Search::is_completed))]
+    pub fn is_completed(self) -> bool
+        ensures { result ≡ is_completed self }
+    {
+        match self {
+            End::Completed => true,
+            End::BudgetSpent => false,
+            End::ListFull => false,
+        }
+    }
+}
 
 // What a run answers: how it ended, how many words it found and rejected, and how many candidates
 // it replayed and visited.
 #[derive(Drop)]
 pub struct Run {
-    pub end: u64,
+    pub end: End,
     pub found: usize,
     pub rejected: usize,
     pub replays: u32,
     pub visits: u32,
-}
-
-// What the search answers: what a run did, or the refusal.
-#[derive(Drop)]
-pub enum Discovered {
-    Ran(Run),
-    Refused(Refusal),
 }

@@ -1,12 +1,14 @@
 -- The definitions of stepping through a checked log, tried on short texts.
 -- Assumes nothing.
+use Rattle.std.specs.Prelude.{drop, None, Some}
+use Rattle.log_lines.specs.Reading.{count_in}
 use Prim.Native.Nat.{ℕ, ◌+◌, ◌*◌}
 use mathlib.Core.Path.{◌≡◌, refl}
 use mathlib.Core.List.{List, [], ◌∷◌, map}
 use Rattle.foundation.specs.Text.{bytes}
 use Rattle.event_log_spec.specs.Frames.{Frame}
 use Rattle.event_log_spec.specs.Lines.{frames_of}
-use Rattle.event_log.specs.Stepping.{cases_at, trace_end}
+use Rattle.event_log.specs.Stepping.{trace_end}
 use Rattle.event_log.specs.FrameIndex.{word_digits, word_start, word_cases, frame_index, frame_at, frames_between, activity_digits}
 use Rattle.event_log.proofs.Opened.{opened}
 
@@ -14,8 +16,8 @@ abbrev two : List ℕ
 two = bytes "00010001\n01FA000201\n"
 
 pub record StepExamples : Type 0 where
-  pub cases : cases_at (bytes "00010001\n01FA0001\n") 9 ≡ 506
-  pub no_cases : cases_at (bytes "00010001\n01F") 9 ≡ 0
+  pub cases : count_in (drop 9 (bytes "00010001\n01FA0001\n")) ≡ Some 506
+  pub no_cases : count_in (drop 9 (bytes "00010001\n01F")) ≡ None
   pub end : trace_end (bytes "00010001\n01FA0001\n") 13 ≡ 17
   pub no_end : trace_end (bytes "00010") 4 ≡ 6
   -- four digits from byte 4, one case; six from byte 13, 506 cases

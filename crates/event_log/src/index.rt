@@ -1,20 +1,72 @@
 // The index of a log's frames, made once for all replays: document 01, "Settings and the log". What
 // a word of it holds is known in this file alone.
-ghost use Rattle.std.specs.Prelude.{◌≡◌, ℕ, ◌/◌, ◌≤◌, ◌<◌, List, length};
+ghost use Rattle.std.specs.Prelude.{◌≡◌, ◌/◌, ◌≤◌, ◌<◌, length};
 ghost use Rattle.foundation.specs.Buffers.{overwrite};
 ghost use Rattle.limits.specs.Settings.{most_activities};
 ghost use Rattle.event_log_spec.specs.Frames.{WrittenLog, most_frames};
 ghost use Rattle.event_log_spec.specs.Lines.{frames_of};
-ghost use Rattle.event_log.specs.FrameIndex.{start_unit, case_unit, index_word, frame_index, Indexed, frame_at, activity_digits};
+ghost use Rattle.event_log.specs.FrameIndex.{start_unit, case_unit, index_word, frame_index};
+ghost use Rattle.event_log.specs.FrameIndex.{Indexed, frame_at, activity_digits};
+ghost use Rattle.event_log_spec.proofs.laws.OneWay.{log_prop};
+ghost use Rattle.std.proofs.Props.{props};
 
-use crate::frame::{cases_at, trace_end};
+use crate::frame::trace_end;
 use log_lines::COUNT_DIGITS;
+use log_lines::line::count_at;
 
 // What one byte of a frame's start, and one of its cases, count for in its word. Below the start
 // stands how many activity digits the frame has.
 const START_UNIT: u64 = 512;
 
 const CASE_UNIT: u64 = 4294967296;
+
+// A log that was accepted, and a word for each of its frames, so that nothing has to be looked for
+// or decoded when its traces are replayed again and again.
+#[derive(Clone, Copy)]
+pub struct IndexedLog<'a> {
+    pub text: &'a [u8],
+    index: &'a [u64],
+    pub ghost indexed: { Indexed text.now index.now } by { Prim.hlevel (log_prop, props) },
+}
+
+impl<'a> IndexedLog<'a> {
+    // A log with the index that was written for it.
+    pub fn new(text: &'a [u8], index: &'a [u64]) -> Self
+        requires { Indexed text.now index.now }
+        ensures { result.text.now ≡ text.now }
+    {
+        IndexedLog { text, index }
+    }
+
+    // How many frames the log has.
+    #[tactic(auto, using(crate::proofs::laws::IndexedFrames::found))]
+    pub fn len(&self) -> usize
+        ensures { result ≡ length (frames_of self.now.text.now) }
+    {
+        self.index.len()
+    }
+
+    // The cases of a frame.
+    #[tactic(auto, using(crate::proofs::laws::IndexedFrames::found))]
+    pub fn cases(&self, frame: usize) -> u64
+        requires { frame < length (frames_of self.now.text.now) }
+        ensures { result ≡ (frame_at self.now.text.now frame).cases }
+    {
+        self.index[frame] / CASE_UNIT
+    }
+
+    // The activity digits of a frame: a part of the log's text.
+    #[tactic(auto, using(crate::proofs::laws::IndexedFrames::found))]
+    pub fn digits(&self, frame: usize) -> &'a [u8]
+        requires { frame < length (frames_of self.now.text.now) }
+        ensures { result.now ≡ activity_digits (frame_at self.now.text.now frame) }
+    {
+        let word = self.index[frame];
+        let start = (word % CASE_UNIT / START_UNIT) as usize;
+        let end = start + (word % START_UNIT) as usize;
+        &self.text[start..end]
+    }
+}
 
 // The word of a frame.
 fn index_word(digits: usize, start: usize, cases: u64) -> u64
@@ -24,11 +76,12 @@ fn index_word(digits: usize, start: usize, cases: u64) -> u64
     digits as u64 + START_UNIT * start as u64 + CASE_UNIT * cases
 }
 
-// A word for each frame of a log that was accepted, so that nothing has to be looked for or decoded
-// when its traces are replayed again and again. Written from the front of a buffer that has room
-// for as many frames as a log can have; answers how many there are.
+// Writes the words of an accepted log's frames from the front of a buffer that has room for as many
+// as a log can have; answers how many there are.
+#[tactic(auto, using(crate::proofs::laws::FrameIndex::frames_stored))]
 pub fn index_frames(text: &[u8], index: &mut [u64]) -> usize
-    requires { WrittenLog most_activities (frames_of text.now) text.now × (most_frames ≤ length index.old) }
+    requires { WrittenLog most_activities (frames_of text.now) text.now
+        × (most_frames ≤ length index.old) }
     ensures count { result ≡ length (frames_of text.now) }
     ensures index { index.new ≡ overwrite (frame_index 0 (frames_of text.now)) index.old }
 {
@@ -37,33 +90,30 @@ pub fn index_frames(text: &[u8], index: &mut [u64]) -> usize
     while at < text.len() {
         let start = at + COUNT_DIGITS;
         let end = trace_end(text, start);
-        index[count] = index_word(end - start, start, cases_at(text, at));
+        let cases = count_at(text, at).unwrap();
+        index[count] = index_word(end - start, start, cases);
         count += 1;
         at = end + 1;
     }
     count
 }
 
-// The cases of a frame, whatever log the index is of.
-pub fn frame_cases(index: &[u64], frame: usize) -> u64
-    requires { frame < length index.now }
-    ensures { (text : List ℕ) → Indexed text index.now → result ≡ (frame_at text frame).cases }
+// Indexes a log that was accepted, in a buffer that has room for as many frames as a log can have.
+#[tactic(auto, using(crate::proofs::laws::FrameIndex::log_indexed))]
+pub fn index_log<'a>(text: &'a [u8], buffer: &'a mut [u64]) -> IndexedLog<'a>
+    requires { WrittenLog most_activities (frames_of text.now) text.now
+        × (most_frames ≤ length buffer.old) }
+    ensures { result.text.now ≡ text.now }
 {
-    index[frame] / CASE_UNIT
-}
-
-// The activity digits of a frame: a part of the log's text.
-pub fn frame_digits<'a>(text: &'a [u8], index: &[u64], frame: usize) -> &'a [u8]
-    requires { Indexed text.now index.now × (frame < length index.now) }
-    ensures { result.now ≡ activity_digits (frame_at text.now frame) }
-{
-    let word = index[frame];
-    let start = (word % CASE_UNIT / START_UNIT) as usize;
-    let end = start + (word % START_UNIT) as usize;
-    &text[start..end]
+    let frames = index_frames(text, buffer);
+    IndexedLog {
+        text,
+        index: &buffer[..frames],
+    }
 }
 
 // The activity digits of a log's first frame, for which no index is needed.
+#[tactic(auto, using(crate::proofs::laws::IndexedFrames::first_part))]
 pub fn first_digits(text: &[u8]) -> &[u8]
     requires { WrittenLog most_activities (frames_of text.now) text.now }
     ensures { result.now ≡ activity_digits (frame_at text.now 0) }

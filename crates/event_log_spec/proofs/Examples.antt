@@ -1,20 +1,19 @@
 -- The definitions of frames and checking, tried on small texts, on the source's first log and at
 -- each fault of a line.
 -- Assumes nothing.
+use Rattle.std.specs.Prelude.{None, Some, Ok, Err}
 use Prim.Native.Nat.{ℕ}
 use mathlib.Core.Path.{◌≡◌, refl}
 use mathlib.Core.Bool.{true, false}
 use mathlib.Core.List.{List, [], ◌∷◌, ◌++◌, flat_map}
-use mathlib.Core.Option.{none, some}
 use lib.Dec.{lit<, lit≤}
 use lib.ListN.{replicate}
 use Rattle.foundation.specs.Text.{bytes}
 use Rattle.foundation.specs.Lists.{each_nil, each_cons}
 use Rattle.limits.specs.declared.Refusal.TheVariants.{InvalidSetting, MalformedFrame, UnknownActivity, MisplacedEndpoint, TooLarge, EmptyLog}
-use Rattle.event_log_spec.specs.declared.Checked.TheVariants.{Accepted, Refused}
 use Rattle.event_log_spec.specs.Frames.{Frame, write_frame, WrittenLog}
 use Rattle.event_log_spec.specs.Lines.{lines, frames_of}
-use Rattle.event_log_spec.specs.Checking.{line_fault, checked}
+use Rattle.event_log_spec.specs.Checking.{line_fault, log_size, checked}
 use Rattle.event_log_spec.proofs.Opened.{opened}
 
 abbrev pub frame : ℕ → List ℕ → Frame
@@ -41,32 +40,32 @@ pub record LogExamples : Type 0 where
   pub read : frames_of figure1_log ≡ figure1_frames
   pub last_line : lines (bytes "0\n1") ≡ record { bytes = bytes "0"; ended = true } ∷ record { bytes = bytes "1"; ended = false } ∷ []
   pub built : WrittenLog 2 (frame 1 (0 ∷ 1 ∷ []) ∷ []) (bytes "00010001\n")
-  pub accepted : checked 6 figure1_log ≡ Accepted 4 100
-  pub repeated : checked 2 (bytes "FFFF0001\nFFFF0001\n") ≡ Accepted 2 131070
-  pub longest : checked 3 (write_frame (with_inside (replicate 252 2))) ≡ Accepted 1 1
+  pub accepted : checked 6 figure1_log ≡ Ok (log_size 4 100)
+  pub repeated : checked 2 (bytes "FFFF0001\nFFFF0001\n") ≡ Ok (log_size 2 131070)
+  pub longest : checked 3 (write_frame (with_inside (replicate 252 2))) ≡ Ok (log_size 1 1)
 
 pub record FaultExamples : Type 0 where
-  pub setting_first : checked 1 [] ≡ Refused InvalidSetting
-  pub empty : checked 2 [] ≡ Refused EmptyLog
-  pub no_line_feed : checked 6 (bytes "0001000201") ≡ Refused (MalformedFrame 0)
-  pub other_line_end : checked 6 (bytes "00010001\t") ≡ Refused (MalformedFrame 0)
-  pub odd : checked 6 (bytes "000100021\n") ≡ Refused (MalformedFrame 0)
-  pub too_few : checked 6 (bytes "000100\n") ≡ Refused (MalformedFrame 0)
-  pub lower_case : checked 16 (bytes "0001000a01\n") ≡ Refused (MalformedFrame 0)
-  pub no_case : checked 6 (bytes "0000000201\n") ≡ Refused (MalformedFrame 0)
-  pub malformed_before_unknown : checked 6 (bytes "00000009\n") ≡ Refused (MalformedFrame 0)
-  pub malformed_before_too_large : checked 6 (write_frame (frame 0 (replicate 255 0))) ≡ Refused (MalformedFrame 0)
-  pub too_large_before_unknown : checked 6 (write_frame (with_inside (replicate 253 9))) ≡ Refused (TooLarge 0)
-  pub unknown : checked 6 (bytes "0001000601\n") ≡ Refused (UnknownActivity 0)
-  pub unknown_before_misplaced : checked 6 (bytes "00010600\n") ≡ Refused (UnknownActivity 0)
-  pub first_not_start : checked 6 (bytes "0001020301\n") ≡ Refused (MisplacedEndpoint 0)
-  pub last_not_end : checked 6 (bytes "0001000203\n") ≡ Refused (MisplacedEndpoint 0)
-  pub last_is_start : checked 6 (bytes "0001000200\n") ≡ Refused (MisplacedEndpoint 0)
-  pub start_inside : checked 6 (bytes "0001000001\n") ≡ Refused (MisplacedEndpoint 0)
-  pub end_inside : checked 6 (bytes "0001000101\n") ≡ Refused (MisplacedEndpoint 0)
-  pub last_line : line_fault 2 4095 (record { bytes = bytes "00010001"; ended = true }) ≡ none
-  pub line_too_many : line_fault 2 4096 (record { bytes = []; ended = false }) ≡ some (TooLarge 4096)
-  pub first_faulty_line : checked 6 (bytes "00010001\n00010100\n0000\n") ≡ Refused (MisplacedEndpoint 1)
+  pub setting_first : checked 1 [] ≡ Err InvalidSetting
+  pub empty : checked 2 [] ≡ Err EmptyLog
+  pub no_line_feed : checked 6 (bytes "0001000201") ≡ Err (MalformedFrame 0)
+  pub other_line_end : checked 6 (bytes "00010001\t") ≡ Err (MalformedFrame 0)
+  pub odd : checked 6 (bytes "000100021\n") ≡ Err (MalformedFrame 0)
+  pub too_few : checked 6 (bytes "000100\n") ≡ Err (MalformedFrame 0)
+  pub lower_case : checked 16 (bytes "0001000a01\n") ≡ Err (MalformedFrame 0)
+  pub no_case : checked 6 (bytes "0000000201\n") ≡ Err (MalformedFrame 0)
+  pub malformed_before_unknown : checked 6 (bytes "00000009\n") ≡ Err (MalformedFrame 0)
+  pub malformed_before_too_large : checked 6 (write_frame (frame 0 (replicate 255 0))) ≡ Err (MalformedFrame 0)
+  pub too_large_before_unknown : checked 6 (write_frame (with_inside (replicate 253 9))) ≡ Err (TooLarge 0)
+  pub unknown : checked 6 (bytes "0001000601\n") ≡ Err (UnknownActivity 0)
+  pub unknown_before_misplaced : checked 6 (bytes "00010600\n") ≡ Err (UnknownActivity 0)
+  pub first_not_start : checked 6 (bytes "0001020301\n") ≡ Err (MisplacedEndpoint 0)
+  pub last_not_end : checked 6 (bytes "0001000203\n") ≡ Err (MisplacedEndpoint 0)
+  pub last_is_start : checked 6 (bytes "0001000200\n") ≡ Err (MisplacedEndpoint 0)
+  pub start_inside : checked 6 (bytes "0001000001\n") ≡ Err (MisplacedEndpoint 0)
+  pub end_inside : checked 6 (bytes "0001000101\n") ≡ Err (MisplacedEndpoint 0)
+  pub last_line : line_fault 2 4095 (record { bytes = bytes "00010001"; ended = true }) ≡ None
+  pub line_too_many : line_fault 2 4096 (record { bytes = []; ended = false }) ≡ Some (TooLarge 4096)
+  pub first_faulty_line : checked 6 (bytes "00010001\n00010100\n0000\n") ≡ Err (MisplacedEndpoint 1)
 
 built_log : WrittenLog 2 (frame 1 (0 ∷ 1 ∷ []) ∷ []) (bytes "00010001\n")
 unfolding opened

@@ -6,6 +6,7 @@ pub mod FrameLines
 pub mod TextLines
 pub mod LogChecks
 pub mod Written
+pub mod OneWay
 pub mod FirstFault
 pub mod WiderBound
 pub mod NotWritten

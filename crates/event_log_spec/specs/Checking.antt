@@ -1,15 +1,13 @@
 -- What checking a log answers. Document 01, "Settings and the log": numbers 2 to 6 of the table,
 -- and the order of checks in a text and a line.
 -- Assumes nothing.
-use Rattle.std.specs.Prelude.{ℕ, suc, ◌-◌, ◌%◌, Bool, not, ◌||◌, List, [], ◌∷◌, eqb, ltb, leb, length, take, drop, get_or}
-use Rattle.std.proofs.Math.Option.{Option, none}
+use Rattle.std.specs.Prelude.{ℕ, suc, ◌-◌, ◌%◌, Bool, not, ◌||◌, List, [], ◌∷◌, eqb, ltb, leb, length, take, drop, get_or, Option, None, Result}
 use Rattle.foundation.specs.Lists.{all, any}
 use Rattle.limits.specs.declared.Refusal.{Refusal}
 use Rattle.limits.specs.declared.Refusal.TheVariants.{MalformedFrame, UnknownActivity, MisplacedEndpoint, TooLarge, EmptyLog}
-use Rattle.limits.specs.Refusals.{number, value, given, first_of, first_refusal, answer}
+use Rattle.limits.specs.Refusals.{given, first_of, first_refusal, answered}
 use Rattle.limits.specs.Settings.{bound_fault}
-use Rattle.event_log_spec.specs.declared.Checked.{Checked}
-use Rattle.event_log_spec.specs.declared.Checked.TheVariants.{Accepted, Refused}
+use Rattle.event_log_spec.specs.declared.LogSize.{LogSize}
 use Rattle.hex_digits.specs.Digits.{is_digit}
 use Rattle.event_log_spec.specs.Frames.{most_events, most_frames, shortest_frame, total_cases}
 use Rattle.event_log_spec.specs.Lines.{Line, lines, frame_of, frames_of}
@@ -47,7 +45,7 @@ line_fault A line l =
 
 -- the first faulty line decides; the lines are counted from `line`
 unfoldable pub lines_fault : ℕ → ℕ → List Line → Option Refusal
-lines_fault A line [] = none
+lines_fault A line [] = None
 lines_fault A line (l ∷ ls) = first_of (line_fault A line l ∷ lines_fault A (suc line) ls ∷ [])
 
 -- number 6, empty log
@@ -65,28 +63,23 @@ log_refusal settings places A text =
     first_refusal
     (record {
       settings = settings;
-      arguments = none;
+      arguments = None;
       places = places;
-      map = none;
-      room = none;
+      map = None;
+      room = None;
       emptiness = empty_fault text;
       lines = text_fault A text;
-      result_room = none;
+      result_room = None;
     })
 
+-- so many frames and so many cases
+abbrev pub log_size : ℕ → ℕ → LogSize
+log_size frames cases = record { frames = frames; cases = cases }
+
+-- how many frames a text has, and N
+abbrev pub size_of : List ℕ → LogSize
+size_of text = log_size (length (frames_of text)) (total_cases (frames_of text))
+
 -- checking takes A and the text, and answers how many frames there are, and N
-unfoldable pub checked : ℕ → List ℕ → Checked
-checked A text =
-    answer
-    Refused
-    (log_refusal (bound_fault A) none A text)
-    (Accepted (length (frames_of text)) (total_cases (frames_of text)))
-
--- the number of an answer, 0 where the log is accepted, and the value beside it
-unfoldable pub checked_number : Checked → ℕ
-checked_number (Accepted frames cases) = 0
-checked_number (Refused r) = number r
-
-unfoldable pub checked_value : Checked → ℕ
-checked_value (Accepted frames cases) = 0
-checked_value (Refused r) = value r
+unfoldable pub checked : ℕ → List ℕ → Result LogSize Refusal
+checked A text = answered (log_refusal (bound_fault A) None A text) (size_of text)

@@ -2,11 +2,10 @@
 // has no code.
 #![tactic(auto)]
 
-use limits::Refusal;
-
-// What checking a log answers: how many frames it has and how many cases (N), or the refusal.
-#[derive(Drop)]
-pub enum Checked {
-    Accepted { frames: usize, cases: u64 },
-    Refused(Refusal),
+// What checking a log answers where nothing is refused: how many frames it has, and how many cases
+// (N).
+#[derive(Clone, Copy, Drop)]
+pub struct LogSize {
+    pub frames: usize,
+    pub cases: u64,
 }

@@ -3,13 +3,14 @@
 // set of activities.
 #![tactic(auto)]
 
-ghost use Rattle.std.specs.Prelude.{◌≡◌, ◌↔◌, true, ◌<◌};
+ghost use Rattle.std.specs.Prelude.{◌≡◌, ◌↔◌, true, ◌-◌, ◌<◌};
 ghost use Rattle.places.specs.Places.{through, place_of};
-ghost use Rattle.reduction_spec.specs.Cover.{Listable, Cover};
+ghost use Rattle.reduction_spec.specs.Cover.{Listable, usable, Cover};
+ghost use Rattle.reduction_spec.specs.Props.{Listable-prop};
 ghost use Rattle.exact_cover.specs.Gathering.{gathered_after};
 
 use crate::parts::gather;
-use cover_choice::{Choice, choose, is_usable};
+use cover_choice::Remainder;
 use places::OUTPUT_UNIT;
 
 mod parts; // parts.rt: the words that can be parts of what is left
@@ -17,11 +18,12 @@ mod parts; // parts.rt: the words that can be parts of what is left
 // How many words that can be parts of what is left are copied at each step of the search.
 const ROOM: usize = 256;
 
-// Whether the words that can be parts of what is left fitted a buffer, and how many they are.
-#[derive(Drop)]
-pub enum Gathered {
-    All(usize),
-    TooMany,
+// Something that is left of a whole, and words of places that may be its parts.
+#[derive(Clone, Copy)]
+pub struct Uncovered<'a> {
+    pub rest: Remainder<'a>,
+    ghost places: { Listable rest.words.now } by { Listable-prop rest.words.now },
+    ghost some_left: { 0 < rest.left },
 }
 
 // Whether both inputs and outputs are left.
@@ -32,56 +34,65 @@ fn is_through(left: u32) -> bool
     left % OUTPUT_UNIT != 0 && left / OUTPUT_UNIT != 0
 }
 
-// Whether words other than the whole cover what is left of it, each activity once. Where there is a
-// cover, one of the words that cover a chosen activity is in it: each of these is tried, and the same
-// is asked of what it leaves, where fewer activities are uncovered. The search goes over the words
-// again and again, so it is given only those that can be parts of what is left, where a buffer takes
-// all.
-fn is_covered(words: &[u32], whole: u32, left: u32) -> bool
-    requires { Listable words.now × (0 < left) }
-    ensures { (result ≡ true) ↔ Cover words.now whole left }
-{
-    let Choice::Activity(chosen) = choose(words, whole, left) else {
-        return false;
-    };
-    let mut parts = [0u32; ROOM];
-    let mut at = 0;
-    while at < words.len() {
-        let word = words[at];
-        at += 1;
-        if (word >> chosen) % 2 == 0 {
-            continue;
-        }
-        if !is_usable(word, whole, left) {
-            continue;
-        }
-        let rest = left - word;
-        if rest == 0 {
-            return true;
-        }
-        if !is_through(rest) {
-            continue;
-        }
-        let found = match gather(words, whole, rest, &mut parts) {
-            Gathered::All(count) => is_covered(&parts[0..count], whole, rest),
-            Gathered::TooMany => is_covered(words, whole, rest),
-        };
-        if found {
-            return true;
+impl Uncovered<'_> {
+    // Whether words other than the whole cover what is left of it. A buffer is lent for the words
+    // that can be parts of it: the search goes over the words again and again, so it is given only
+    // those, where the buffer takes all.
+    #[cycle(cover)]
+    pub fn has_cover(self, parts: &mut [u32]) -> bool
+        ensures answer { let of = self.entry.rest in
+            (result ≡ true) ↔ Cover of.words.now of.whole of.left }
+        ensures buffer { let of = self.entry.rest in
+            parts.new ≡ gathered_after of.words.now of.whole of.left parts.old }
+    {
+        match gather(self.rest, parts) {
+            Some(count) => {
+                let words = &parts[..count];
+                let rest = Remainder { words, ..self.rest };
+                Uncovered { rest }.is_covered()
+            }
+            None => self.is_covered(),
         }
     }
-    false
-}
 
-// Whether words other than the whole cover what is left of it. A buffer is lent for the words that
-// can be parts of it.
-pub fn has_cover(words: &[u32], whole: u32, left: u32, parts: &mut [u32]) -> bool
-    requires { Listable words.now × (0 < left) }
-    ensures answer { (result ≡ true) ↔ Cover words.now whole left }
-    ensures buffer { parts.new ≡ gathered_after words.now whole left parts.old }
-{
-    match gather(words, whole, left, parts) {
-        Gathered::All(count) => is_covered(&parts[0..count], whole, left),
-        Gathered::TooMany => is_covered(words, whole, left),
+    // Whether words other than the whole cover what is left of it, each activity once. Where there is
+    // a cover, one of the words that cover a chosen activity is in it: each of these is tried.
+    #[cycle(cover)]
+    fn is_covered(self) -> bool
+        ensures { let of = self.entry.rest in
+            (result ≡ true) ↔ Cover of.words.now of.whole of.left }
+    {
+        let Some(chosen) = self.rest.choose() else {
+            return false;
+        };
+        let mut parts = [0u32; ROOM];
+        for &word in self.rest.words {
+            if (word >> chosen) % 2 == 1
+                && self.rest.takes(word)
+                && self.is_covered_after(word, &mut parts)
+            {
+                return true;
+            }
+        }
+        false
+    }
+
+    // Whether they cover what the next part leaves, where fewer activities are uncovered.
+    #[cycle(cover)]
+    fn is_covered_after(self, part: u32, parts: &mut [u32]) -> bool
+        requires next { usable self.rest.whole self.rest.left part ≡ true }
+        requires some { 0 < part }
+        ensures { let of = self.entry.rest in
+            (result ≡ true) ↔ Cover of.words.now of.whole (of.left - part) }
+    {
+        let left = self.rest.left - part;
+        if left == 0 {
+            return true;
+        }
+        if !is_through(left) {
+            return false;
+        }
+        let rest = Remainder { left, ..self.rest };
+        Uncovered { rest }.has_cover(parts)
     }
 }

@@ -2,28 +2,26 @@
 ghost use Rattle.std.specs.Prelude.{◌≡◌, length};
 ghost use Rattle.exact_cover.specs.Gathering.{gathered, gathered_after};
 
-use crate::Gathered;
-use cover_choice::is_usable;
+use cover_choice::Remainder;
 
 // Writes the words that can be parts of what is left from the front of a buffer, as long as there is
-// room.
-pub fn gather(words: &[u32], whole: u32, left: u32, parts: &mut [u32]) -> Gathered
-    ensures answer { result ≡ gathered words.now whole left (length parts.old) }
-    ensures buffer { parts.new ≡ gathered_after words.now whole left parts.old }
+// room, and answers how many they are, where there was room for all.
+#[tactic(auto, using(crate::proofs::laws::GatheredParts::gathering))]
+pub fn gather(rest: Remainder, parts: &mut [u32]) -> Option<usize>
+    ensures answer { let of = rest.entry in
+        result ≡ gathered of.words.now of.whole of.left (length parts.old) }
+    ensures buffer { let of = rest.entry in
+        parts.new ≡ gathered_after of.words.now of.whole of.left parts.old }
 {
     let mut count = 0;
-    let mut at = 0;
-    while at < words.len() {
-        let word = words[at];
-        at += 1;
-        if !is_usable(word, whole, left) {
-            continue;
+    for &word in rest.words {
+        if rest.takes(word) {
+            if parts.len() <= count {
+                return None;
+            }
+            parts[count] = word;
+            count += 1;
         }
-        if parts.len() <= count {
-            return Gathered::TooMany;
-        }
-        parts[count] = word;
-        count += 1;
     }
-    Gathered::All(count)
+    Some(count)
 }

@@ -1,4 +1,5 @@
--- Words for lists, in their usual meaning, beside the kit's length, take, drop, getD, map and flatMap.
+-- Words for lists, in their usual meaning, beside the kit's length, take, drop, get_or, map and
+-- flat_map.
 -- Assumes nothing.
 use Rattle.std.specs.Prelude.{ℕ, zero, suc, ◌+◌, Bool, true, false, cond, ◌&&◌, ◌||◌, List, [], ◌∷◌, ◌++◌, map}
 

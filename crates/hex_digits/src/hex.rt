@@ -2,37 +2,30 @@
 ghost use Rattle.std.specs.Prelude.{◌≡◌, ◌<◌, ◌≤◌, length};
 ghost use Rattle.hex_digits.specs.Digits.{digit_of, most_digits, number_in, digit_byte, write_hex};
 
-use crate::{Digit, Number};
-
-// What a byte is as a digit.
+// The value of a byte as a digit, if it is one.
 #[tactic(auto, unfolding(crate::specs::Digits::digit_of))]
-pub fn classify(byte: u8) -> Digit
+pub fn classify(byte: u8) -> Option<u8>
     ensures { result ≡ digit_of byte }
 {
     match byte {
-        b'0'..=b'9' => Digit::Value(byte - b'0'),
-        b'A'..=b'F' => Digit::Value(byte - b'A' + 10),
-        _ => Digit::NonDigit,
+        b'0'..=b'9' => Some(byte - b'0'),
+        b'A'..=b'F' => Some(byte - b'A' + 10),
+        _ => None,
     }
 }
 
-// The number that some digits write, the highest first: no more digits than 64 bits take.
-pub fn read_hex(digits: &[u8]) -> Number
+// The number that some digits write, the highest first: no more digits than 64 bits take. There is
+// none where a byte is no digit.
+#[tactic(auto, using(crate::proofs::laws::DigitsFromFront::digits_read))]
+pub fn read_hex(digits: &[u8]) -> Option<u64>
     requires { length digits.now ≤ most_digits }
     ensures { result ≡ number_in digits.now }
 {
-    let mut number: u64 = 0;
-    let mut at = 0;
-    while at < digits.len() {
-        match classify(digits[at]) {
-            Digit::NonDigit => return Number::NonDigits,
-            Digit::Value(value) => {
-                number = 16 * number + value as u64;
-                at += 1;
-            }
-        }
+    let mut number = 0;
+    for byte in digits {
+        number = 16 * number + u64::from(classify(*byte)?);
     }
-    Number::Value(number)
+    Some(number)
 }
 
 // The byte that writes a value below 16, with no branch: from 10 on it stands 7 further, where the
@@ -46,14 +39,13 @@ fn digit_byte(value: u8) -> u8
 }
 
 // Fills a slice with a number's lowest digits, the highest first: as many as there are bytes.
+#[tactic(auto, using(crate::proofs::laws::DigitsFromBack::digits_written))]
 pub fn write_hex(number: u64, text: &mut [u8])
     ensures { text.new ≡ write_hex (length text.old) number }
 {
     let mut rest = number;
-    let mut at = text.len();
-    while 0 < at {
-        at -= 1;
+    for at in (0..text.len()).rev() {
         text[at] = digit_byte((rest % 16) as u8);
-        rest = rest / 16;
+        rest /= 16;
     }
 }

@@ -1,8 +1,7 @@
 -- The refusals and the order of checks: document 01, "Settings and the log", the table and the
 -- paragraph below it.
 -- Assumes nothing.
-use Rattle.std.specs.Prelude.{ℕ, ◌≡◌, Bool, true, false, List, [], ◌∷◌}
-use Rattle.std.proofs.Math.Option.{Option, none, some}
+use Rattle.std.specs.Prelude.{ℕ, ◌≡◌, Bool, true, false, List, [], ◌∷◌, Option, None, Some, Result, Ok, Err}
 use Rattle.limits.specs.declared.Refusal.{Refusal}
 use Rattle.limits.specs.declared.Refusal.TheVariants.{InvalidSetting, MalformedFrame, UnknownActivity, MisplacedEndpoint, TooLarge, EmptyLog, InvalidPlace, BufferTooSmall}
 
@@ -30,16 +29,16 @@ value BufferTooSmall = 0
 
 -- a check gives its refusal when its condition holds
 abbrev pub given : Bool → Refusal → Option Refusal
-given true r = some r
-given false r = none
+given true r = Some r
+given false r = None
 
 -- the first check that gives a refusal decides
 abbrev pub first_of : List (Option Refusal) → Option Refusal
-first_of [] = none
-first_of (some r ∷ later) = some r
-first_of (none ∷ later) = first_of later
+first_of [] = None
+first_of (Some r ∷ later) = Some r
+first_of (None ∷ later) = first_of later
 
--- what each check of a call gives; `none` where it passes, and where the call has no such argument.
+-- what each check of a call gives; `None` where it passes, and where the call has no such argument.
 -- Those marked (02) are positions for the checks of document 02, which the calls of document 01
 -- pass over
 pub record Checks : Type 0 where
@@ -68,19 +67,33 @@ first_refusal c =
 
 -- the number of a call's refusal and the value beside it, 0 and 0 where it is not refused
 unfoldable pub number_given : Option Refusal → ℕ
-number_given none = 0
-number_given (some r) = number r
+number_given None = 0
+number_given (Some r) = number r
 
 unfoldable pub value_given : Option Refusal → ℕ
-value_given none = 0
-value_given (some r) = value r
+value_given None = 0
+value_given (Some r) = value r
 
 -- an answer has this number and value, and they are those of the call's refusal
 pub record Numbered (refusal : Option Refusal) (answer_number answer_value : ℕ) : Type 0 where
   pub number_is : answer_number ≡ number_given refusal
   pub value_is : answer_value ≡ value_given refusal
 
--- a call answers with its refusal, made into the call's own answer, or else with its result
+-- one thing where a call is refused, made of its refusal, or else another
 abbrev pub answer : {X : Type 0} → (Refusal → X) → Option Refusal → X → X
-answer refused none result = result
-answer refused (some r) result = refused r
+answer refused None result = result
+answer refused (Some r) result = refused r
+
+-- a call answers with its refusal, or else with its result
+abbrev pub answered : {X : Type 0} → Option Refusal → X → Result X Refusal
+answered None result = Ok result
+answered (Some r) result = Err r
+
+-- the number of an answer, 0 where the call is not refused, and the value beside it
+unfoldable pub answer_number : {X : Type 0} → Result X Refusal → ℕ
+answer_number (Ok result) = 0
+answer_number (Err r) = number r
+
+unfoldable pub answer_value : {X : Type 0} → Result X Refusal → ℕ
+answer_value (Ok result) = 0
+answer_value (Err r) = value r

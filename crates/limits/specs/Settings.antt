@@ -1,8 +1,7 @@
 -- The settings and their ranges: document 01, "Settings and the log", first paragraph and number 1
 -- of the table.
 -- Assumes nothing.
-use Rattle.std.specs.Prelude.{ℕ, Bool, not, ◌&&◌, leb}
-use Rattle.std.proofs.Math.Option.{Option}
+use Rattle.std.specs.Prelude.{ℕ, Bool, not, ◌&&◌, leb, Option}
 use Rattle.limits.specs.declared.Refusal.{Refusal}
 use Rattle.limits.specs.declared.Refusal.TheVariants.{InvalidSetting}
 use Rattle.limits.specs.declared.Settings.{Settings}

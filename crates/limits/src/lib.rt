@@ -2,9 +2,12 @@
 // and the log".
 #![tactic(auto)]
 
-ghost use Rattle.std.specs.Prelude.{◌≡◌, ◌&&◌};
-ghost use Rattle.limits.specs.Refusals.{number, value};
+ghost use Rattle.std.specs.Prelude.{◌≡◌, ◌&&◌, true, false, not, MatchResult};
+ghost use Rattle.limits.specs.Refusals.{number, value, given, answered};
 ghost use Rattle.limits.specs.Settings.{bound_in_range, size_in_range, threshold_in_range, settings_in_range};
+
+// The most activities that a 16-bit set can name.
+pub const MOST_ACTIVITIES: u8 = 16;
 
 // A, mi, mo and T of document 01. Their ranges are in specs/Settings.antt.
 #[derive(Clone, Copy, Drop)]
@@ -17,6 +20,19 @@ pub struct Settings {
     pub outputs: u8,
     // T, the threshold in thousandths
     pub threshold: u16,
+}
+
+impl Settings {
+    // Whether all four settings are in their ranges.
+    #[tactic(auto, unfolding(crate::specs::Settings::settings_in_range))]
+    pub fn are_in_range(self) -> bool
+        ensures { result ≡ settings_in_range self }
+    {
+        bound_in_range(self.activities)
+            && size_in_range(self.activities, self.inputs)
+            && size_in_range(self.activities, self.outputs)
+            && threshold_in_range(self.threshold)
+    }
 }
 
 // Why a call is refused. Document 01's number and value of each are in specs/Refusals.antt.
@@ -32,8 +48,49 @@ pub enum Refusal {
     BufferTooSmall,
 }
 
-// The most activities that a 16-bit set can name.
-pub const MOST_ACTIVITIES: u8 = 16;
+impl Refusal {
+    // The check that passes where something holds, and else refuses so.
+    pub fn unless(self, holds: bool) -> Result<(), Refusal>
+        ensures answer { result ≡ answered (given (not holds) self) tt }
+        ensures cases { MatchResult result (λ _. holds ≡ true) (λ refusal. (holds ≡ false) × (refusal ≡ self)) }
+    {
+        if holds { Ok(()) } else { Err(self) }
+    }
+
+    // The number of a refusal.
+    #[tactic(auto, unfolding(crate::specs::Refusals::number))]
+    pub fn number(self) -> u8
+        ensures { result ≡ number self }
+    {
+        match self {
+            Refusal::InvalidSetting => 1,
+            Refusal::MalformedFrame { line: _ } => 2,
+            Refusal::UnknownActivity { line: _ } => 3,
+            Refusal::MisplacedEndpoint { line: _ } => 4,
+            Refusal::TooLarge { line: _ } => 5,
+            Refusal::EmptyLog => 6,
+            Refusal::InvalidPlace { index: _ } => 7,
+            Refusal::BufferTooSmall => 8,
+        }
+    }
+
+    // What is returned beside the number.
+    #[tactic(auto, unfolding(crate::specs::Refusals::value))]
+    pub fn value(self) -> usize
+        ensures { result ≡ value self }
+    {
+        match self {
+            Refusal::InvalidSetting => 0,
+            Refusal::MalformedFrame { line } => line,
+            Refusal::UnknownActivity { line } => line,
+            Refusal::MisplacedEndpoint { line } => line,
+            Refusal::TooLarge { line } => line,
+            Refusal::EmptyLog => 0,
+            Refusal::InvalidPlace { index } => index,
+            Refusal::BufferTooSmall => 0,
+        }
+    }
+}
 
 // Whether an activity bound is in its range.
 #[tactic(auto, unfolding(crate::specs::Settings::bound_in_range))]
@@ -55,11 +112,7 @@ pub fn threshold_in_range(threshold: u16) -> bool
 pub fn bound_and_threshold_in_range(activities: u8, threshold: u16) -> bool
     ensures { result ≡ (bound_in_range activities && threshold_in_range threshold) }
 {
-    if bound_in_range(activities) {
-        threshold_in_range(threshold)
-    } else {
-        false
-    }
+    bound_in_range(activities) && threshold_in_range(threshold)
 }
 
 // Whether a bound on inputs or outputs is in its range.
@@ -68,55 +121,4 @@ pub fn size_in_range(activities: u8, size: u8) -> bool
     ensures { result ≡ size_in_range activities size }
 {
     1 <= size && size <= activities
-}
-
-// Whether all four settings are in their ranges.
-#[tactic(auto, unfolding(crate::specs::Settings::settings_in_range))]
-pub fn settings_in_range(settings: Settings) -> bool
-    ensures { result ≡ settings_in_range settings }
-{
-    if !bound_in_range(settings.activities) {
-        return false;
-    }
-    if !size_in_range(settings.activities, settings.inputs) {
-        return false;
-    }
-    if !size_in_range(settings.activities, settings.outputs) {
-        return false;
-    }
-    threshold_in_range(settings.threshold)
-}
-
-// The number of a refusal.
-#[tactic(auto, unfolding(crate::specs::Refusals::number))]
-pub fn number_of(refusal: Refusal) -> u8
-    ensures { result ≡ number refusal }
-{
-    match refusal {
-        Refusal::InvalidSetting => 1,
-        Refusal::MalformedFrame { line: _ } => 2,
-        Refusal::UnknownActivity { line: _ } => 3,
-        Refusal::MisplacedEndpoint { line: _ } => 4,
-        Refusal::TooLarge { line: _ } => 5,
-        Refusal::EmptyLog => 6,
-        Refusal::InvalidPlace { index: _ } => 7,
-        Refusal::BufferTooSmall => 8,
-    }
-}
-
-// What is returned beside the number.
-#[tactic(auto, unfolding(crate::specs::Refusals::value))]
-pub fn value_of(refusal: Refusal) -> usize
-    ensures { result ≡ value refusal }
-{
-    match refusal {
-        Refusal::InvalidSetting => 0,
-        Refusal::MalformedFrame { line } => line,
-        Refusal::UnknownActivity { line } => line,
-        Refusal::MisplacedEndpoint { line } => line,
-        Refusal::TooLarge { line } => line,
-        Refusal::EmptyLog => 0,
-        Refusal::InvalidPlace { index } => index,
-        Refusal::BufferTooSmall => 0,
-    }
 }

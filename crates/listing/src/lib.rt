@@ -4,18 +4,19 @@
 ghost use Rattle.listing.specs.Listing.{resources_of, GoesAsWritten};
 
 use discovery::discover;
-use discovery_spec::{COMPLETED, Discovered, Run};
+use discovery_spec::Run;
 use limits::{Refusal, Settings};
 use reduction::reduce;
-use reduction_spec::Reduced;
 
 // What a run and the reduction of its list answered.
 #[derive(Drop)]
 pub enum Listing {
-    Refused(Refusal),
     // the run stopped before the last candidate, so its list is not reduced
     Incomplete(Run),
-    Complete { run: Run, reduced: Reduced },
+    Complete {
+        run: Run,
+        reduced: Result<usize, Refusal>,
+    },
 }
 
 // Searches the candidates for those that the log fits, and after a completed run writes what it
@@ -27,22 +28,19 @@ pub fn list_places(
     rejected: &mut [u64],
     found: &mut [u32],
     kept: &mut [u32],
-) -> Listing
+) -> Result<Listing, Refusal>
     ensures { GoesAsWritten settings text.now
         (resources_of rejected.old found.old kept.old budget)
         result rejected.new found.new kept.new }
 {
-    match discover(settings, text, budget, rejected, found) {
-        Discovered::Refused(refusal) => Listing::Refused(refusal),
-        Discovered::Ran(run) => {
-            if run.end != COMPLETED {
-                return Listing::Incomplete(run);
-            }
-            let count = run.found;
-            Listing::Complete {
-                run,
-                reduced: reduce(&found[0..count], kept),
-            }
-        }
+    let run = discover(settings, text, budget, rejected, found)?;
+    let completed = run.end.is_completed();
+    if !completed {
+        return Ok(Listing::Incomplete(run));
     }
+    let count = run.found;
+    Ok(Listing::Complete {
+        run,
+        reduced: reduce(&found[0..count], kept),
+    })
 }

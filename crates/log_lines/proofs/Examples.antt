@@ -1,5 +1,6 @@
 -- The definitions of reading a line, tried on short lines.
 -- Assumes nothing.
+use Rattle.std.specs.Prelude.{None, Some, Ok, Err}
 use mathlib.Core.Path.{◌≡◌, refl}
 use mathlib.Core.Bool.{true, false}
 use mathlib.Core.List.{[], ◌∷◌}
@@ -7,28 +8,23 @@ use Rattle.foundation.specs.Text.{bytes}
 use Rattle.foundation.specs.Lists.{foldl}
 use Rattle.limits.specs.declared.Refusal.TheVariants.{MisplacedEndpoint}
 use Rattle.event_log_spec.specs.Lines.{first_line}
-use Rattle.log_lines.specs.declared.Activities.TheVariants.{Read}
-use Rattle.log_lines.specs.declared.Activities.TheVariants as ActivitiesAs
-use Rattle.log_lines.specs.declared.Count.TheVariants.{Cases}
-use Rattle.log_lines.specs.declared.Count.TheVariants as CountAs
-use Rattle.log_lines.specs.declared.LineChecked.TheVariants.{Sound, Faulty}
 use Rattle.log_lines.specs.declared.Phase.TheVariants.{Before, Inside, Complete, Misplaced}
-use Rattle.log_lines.specs.Reading.{count_in, next_phase, activities_in, line_checked}
+use Rattle.log_lines.specs.Reading.{count_in, next_phase, activities, activities_in, checked_line, line_checked}
 use Rattle.log_lines.proofs.Opened.{opened}
 
 pub record LineExamples : Type 0 where
-  pub count : count_in (bytes "01FA00") ≡ Cases 506
-  pub count_zero : count_in (bytes "000001") ≡ CountAs.Malformed
-  pub count_short : count_in (bytes "01F") ≡ CountAs.Malformed
+  pub count : count_in (bytes "01FA00") ≡ Some 506
+  pub count_zero : count_in (bytes "000001") ≡ None
+  pub count_short : count_in (bytes "01F") ≡ None
   pub complete : foldl next_phase Before (0 ∷ 2 ∷ 5 ∷ 1 ∷ []) ≡ Complete
   pub unended : foldl next_phase Before (0 ∷ 2 ∷ 5 ∷ []) ≡ Inside
   pub ended_twice : foldl next_phase Before (0 ∷ 1 ∷ 1 ∷ []) ≡ Misplaced
   pub started_twice : foldl next_phase Before (0 ∷ 0 ∷ 1 ∷ []) ≡ Misplaced
-  pub activities : activities_in 6 4 (first_line (bytes "000201\n0001")) ≡ Read 10 false false
-  pub unknown : activities_in 2 4 (first_line (bytes "000200\n")) ≡ Read 10 true true
-  pub odd : activities_in 6 4 (first_line (bytes "00020\n")) ≡ ActivitiesAs.Malformed
-  pub sound : line_checked 6 3 20 (first_line (bytes "01FA0001\n")) ≡ Sound 29 506
-  pub faulty : line_checked 6 3 20 (first_line (bytes "01FA0101\n")) ≡ Faulty (MisplacedEndpoint 3)
+  pub read : activities_in 6 4 (first_line (bytes "000201\n0001")) ≡ Some (activities 10 false false)
+  pub unknown : activities_in 2 4 (first_line (bytes "000200\n")) ≡ Some (activities 10 true true)
+  pub odd : activities_in 6 4 (first_line (bytes "00020\n")) ≡ None
+  pub sound : line_checked 6 3 20 (first_line (bytes "01FA0001\n")) ≡ Ok (checked_line 29 506)
+  pub faulty : line_checked 6 3 20 (first_line (bytes "01FA0101\n")) ≡ Err (MisplacedEndpoint 3)
 
 pub line_examples : LineExamples
 unfolding opened
@@ -41,7 +37,7 @@ line_examples =
       unended = refl;
       ended_twice = refl;
       started_twice = refl;
-      activities = refl;
+      read = refl;
       unknown = refl;
       odd = refl;
       sound = refl;

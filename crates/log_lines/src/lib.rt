@@ -1,8 +1,6 @@
 // The lines of a log, one by one: document 01, "Settings and the log".
 #![tactic(auto)]
 
-use limits::Refusal;
-
 pub mod line; // line.rt: checking a line
 
 // The byte that ends a line.
@@ -24,15 +22,8 @@ pub const LONGEST_LINE: usize = COUNT_DIGITS + MOST_EVENTS * CODE_DIGITS;
 // The most frames of a log.
 pub const MOST_FRAMES: usize = 4096;
 
-// The case count that a line begins with.
-#[derive(Drop)]
-pub enum Count {
-    Cases(u64),
-    Malformed,
-}
-
 // Where a trace stands between its start and its end.
-#[derive(Drop)]
+#[derive(Clone, Copy, Drop)]
 pub enum Phase {
     Before,
     Inside,
@@ -40,21 +31,44 @@ pub enum Phase {
     Misplaced,
 }
 
-// What the activities of a line say: where its line feed stands, whether one is of the activity
-// bound or more, and whether an endpoint is misplaced; or that the line has no such form.
-#[derive(Drop)]
-pub enum Activities {
-    Read {
-        end: usize,
-        unknown: bool,
-        misplaced: bool,
-    },
-    Malformed,
+impl Phase {
+    ghost use Rattle.std.specs.Prelude.{◌≡◌};
+    ghost use Rattle.log_lines.specs.Reading.{next_phase, incomplete};
+
+    // Where a trace stands after one event more.
+    #[tactic(auto, unfolding(crate::specs::Reading::next_phase))]
+    pub fn after(self, code: u64) -> Phase
+        ensures { result ≡ next_phase self code }
+    {
+        match (self, code) {
+            (Phase::Before, 0) => Phase::Inside,
+            (Phase::Inside, 1) => Phase::Complete,
+            (Phase::Inside, 2..) => Phase::Inside,
+            _ => Phase::Misplaced,
+        }
+    }
+
+    // Whether a trace that stands so is no behaviour.
+    pub fn is_misplaced(self) -> bool
+        ensures { result ≡ incomplete self }
+    {
+        !matches!(self, Phase::Complete)
+    }
 }
 
-// What checking one line answers: the index after its line feed and its case count, or its first fault.
-#[derive(Drop)]
-pub enum LineChecked {
-    Sound { next: usize, cases: u64 },
-    Faulty(Refusal),
+// What the activities of a line say: where its line feed stands, whether one is of the activity
+// bound or more, and whether an endpoint is misplaced.
+#[derive(Clone, Copy, Drop)]
+pub struct Activities {
+    pub end: usize,
+    pub unknown: bool,
+    pub misplaced: bool,
+}
+
+// What checking a line answers where it has no fault: the index after its line feed and its case
+// count.
+#[derive(Clone, Copy, Drop)]
+pub struct CheckedLine {
+    pub next: usize,
+    pub cases: u64,
 }

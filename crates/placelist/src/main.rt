@@ -3,12 +3,9 @@
 // write, it says so on standard error.
 #![tactic(auto)]
 
-use crate::input::{Input, read_input};
+use input::read_full;
 use reporter::{MOST_INPUT, MOST_OUTPUT, report_places};
 use std::io::Print;
-use writer::Written;
-
-mod input; // input.rt: standard input, read to its end
 
 // One byte more than may be read, so that a longer input is seen to be one.
 const INPUT_BYTES: usize = MOST_INPUT + 1;
@@ -17,7 +14,7 @@ const INPUT_BYTES: usize = MOST_INPUT + 1;
 fn write_report(rt: &HostRuntime, input: &[u8]) {
     let mut output = [0u8; MOST_OUTPUT];
     match report_places(input, &mut output) {
-        Written::Bytes(count) => {
+        Ok(count) => {
             if rt.write_all(&output[..count]).is_err() {
                 let _ = rt
                     .stderr()
@@ -25,15 +22,15 @@ fn write_report(rt: &HostRuntime, input: &[u8]) {
             }
         }
         // never so: the buffer takes the longest output
-        Written::Refused(_) => {}
+        Err(_) => {}
     }
 }
 
 fn main(rt: HostRuntime) {
     let mut bytes = [0u8; INPUT_BYTES];
-    match read_input(&mut rt.stdin(), &mut bytes) {
-        Input::Bytes(count) => write_report(&rt, &bytes[..count]),
-        Input::Failed => {
+    match read_full(&mut rt.stdin(), &mut bytes) {
+        Ok(count) => write_report(&rt, &bytes[..count]),
+        Err(_) => {
             let _ = rt
                 .stderr()
                 .write_all(b"placelist: standard input could not be read\n");

@@ -1,12 +1,12 @@
 -- The definitions of sets, places and their order, tried on small sets and on the places of the
 -- source's Figure 1 and Definitions 9 to 11.
 -- Assumes nothing.
+use Rattle.std.specs.Prelude.{None, Some}
 use Prim.Native.Nat.{ℕ}
 use mathlib.Core.Path.{◌≡◌, refl}
 use mathlib.Core.Bool.{true, false}
 use mathlib.Core.Logic.{inl, inr}
 use mathlib.Core.List.{List, [], ◌∷◌, map}
-use mathlib.Core.Option.{none, some}
 use lib.Dec.{lit<}
 use lib.ListN.{length}
 use Rattle.limits.specs.declared.Refusal.TheVariants.{InvalidPlace, BufferTooSmall}
@@ -60,10 +60,10 @@ pub record PlaceExamples : Type 0 where
   pub read : map place_of (0x00020030 ∷ 0xFFFF0001 ∷ []) ≡ place 0x0030 0x0002 ∷ place 0x0001 0xFFFF ∷ []
   pub refused :
       map (place_fault 6 9) (place 0x003F 0x0001 ∷ place 0x0040 0x0001 ∷ place 0x0001 0x0040 ∷ place 0 1 ∷ place 1 0 ∷ [])
-      ≡ none ∷ some (InvalidPlace 9) ∷ some (InvalidPlace 9) ∷ some (InvalidPlace 9) ∷ some (InvalidPlace 9) ∷ []
-  pub first_refused : words_refusal (0x80008000 ∷ 0x00010000 ∷ 0 ∷ []) true ≡ some (InvalidPlace 1)
-  pub short_refused : words_refusal (0x80008000 ∷ []) true ≡ some BufferTooSmall
-  pub accepted : words_refusal (0x80008000 ∷ []) false ≡ none
+      ≡ None ∷ Some (InvalidPlace 9) ∷ Some (InvalidPlace 9) ∷ Some (InvalidPlace 9) ∷ Some (InvalidPlace 9) ∷ []
+  pub first_refused : words_refusal (0x80008000 ∷ 0x00010000 ∷ 0 ∷ []) true ≡ Some (InvalidPlace 1)
+  pub short_refused : words_refusal (0x80008000 ∷ []) true ≡ Some BufferTooSmall
+  pub accepted : words_refusal (0x80008000 ∷ []) false ≡ None
   -- the text after Definition 11: ({a}, {b, c}) is at least as light as ({a}, {b}), and not as
   -- ({a}, {d})
   pub light : map (lighter (place 0x0004 0x0018)) (place 0x0004 0x0008 ∷ place 0x0004 0x0020 ∷ []) ≡ true ∷ false ∷ []

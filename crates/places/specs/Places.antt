@@ -1,8 +1,7 @@
 -- Places, their 32-bit words, and how two places relate. Document 01, "Tokens in one trace" and
 -- "Candidates and their order"; the source's Definitions 3, 8 and 10.
 -- Assumes nothing.
-use Rattle.std.specs.Prelude.{ℕ, suc, ◌+◌, ◌*◌, ◌/◌, ◌%◌, ◌^◌, Bool, not, ◌&&◌, List, [], ◌∷◌, eqb, ltb}
-use Rattle.std.proofs.Math.Option.{Option, none}
+use Rattle.std.specs.Prelude.{ℕ, suc, ◌+◌, ◌*◌, ◌/◌, ◌%◌, ◌^◌, Bool, not, ◌&&◌, List, [], ◌∷◌, eqb, ltb, Option, None}
 use Rattle.limits.specs.declared.Refusal.{Refusal}
 use Rattle.limits.specs.declared.Refusal.TheVariants.{InvalidPlace, BufferTooSmall}
 use Rattle.limits.specs.Refusals.{given, first_of, first_refusal}
@@ -44,7 +43,7 @@ place_fault A index p = given (not (place_under A p)) (InvalidPlace index)
 
 -- number 7 of a list's words, counted from `index`
 unfoldable pub words_fault : ℕ → List ℕ → Option Refusal
-words_fault index [] = none
+words_fault index [] = None
 words_fault index (w ∷ ws) = first_of (place_fault most_activities index (place_of w) ∷ words_fault (suc index) ws ∷ [])
 
 -- the refusal of a call that takes no settings and is lent a list of words and a buffer to be
@@ -53,14 +52,14 @@ unfoldable pub words_refusal : List ℕ → Bool → Option Refusal
 words_refusal words short =
     first_refusal
     (record {
-      settings = none;
-      arguments = none;
+      settings = None;
+      arguments = None;
       places = words_fault 0 words;
-      map = none;
+      map = None;
       room = given short BufferTooSmall;
-      emptiness = none;
-      lines = none;
-      result_room = none;
+      emptiness = None;
+      lines = None;
+      result_room = None;
     })
 
 -- at least as light (Definition 10): the inputs of p are among those of q, and the outputs of q

@@ -25,34 +25,38 @@ pub fn below_bound(activities: u8, set: u16) -> bool
     activities >= 16 || (set >> activities) == 0
 }
 
-// Whether a place is a through place under an activity bound.
-pub fn place_under(activities: u8, place: Place) -> bool
-    ensures { result ≡ place_under activities place }
-{
-    if place.inputs == 0 {
-        return false;
+impl Place {
+    // Whether this is a through place under an activity bound.
+    #[tactic(auto, unfolding(crate::specs::Places::place_under, crate::specs::Places::through))]
+    pub fn is_under(self, activities: u8) -> bool
+        ensures { result ≡ place_under activities self }
+    {
+        self.inputs != 0
+            && self.outputs != 0
+            && below_bound(activities, self.inputs)
+            && below_bound(activities, self.outputs)
     }
-    if place.outputs == 0 {
-        return false;
-    }
-    below_bound(activities, place.inputs) && below_bound(activities, place.outputs)
 }
 
 // The 32-bit word of a place.
-#[tactic(auto, unfolding(crate::specs::Places::word))]
-pub fn word_of(place: Place) -> u32
-    ensures { result ≡ word place }
-{
-    place.inputs as u32 + OUTPUT_UNIT * place.outputs as u32
+impl From<Place> for u32 {
+    ghost from_gives = { λ place result. result ≡ word place };
+
+    #[tactic(auto, unfolding(crate::specs::Places::word))]
+    fn from(place: Place) -> Self {
+        place.inputs as u32 + OUTPUT_UNIT * place.outputs as u32
+    }
 }
 
 // The place that a list word stands for.
-#[tactic(auto, unfolding(crate::specs::Places::place_of))]
-pub fn place_of(word: u32) -> Place
-    ensures { result ≡ place_of word }
-{
-    Place {
-        inputs: (word % OUTPUT_UNIT) as u16,
-        outputs: (word / OUTPUT_UNIT) as u16,
+impl From<u32> for Place {
+    ghost from_gives = { λ word result. result ≡ place_of word };
+
+    #[tactic(auto, unfolding(crate::specs::Places::place_of))]
+    fn from(word: u32) -> Self {
+        Place {
+            inputs: (word % OUTPUT_UNIT) as u16,
+            outputs: (word / OUTPUT_UNIT) as u16,
+        }
     }
 }

@@ -1,25 +1,34 @@
-// Lists of places by their words: document 01, refusal 7 of a call that takes a list and no settings.
-ghost use Rattle.std.specs.Prelude.{◌≡◌, ◌≤◌, ltb, length};
-ghost use Rattle.limits.specs.declared.Refusal.TheVariants.{InvalidPlace};
-ghost use Rattle.limits.specs.Refusals.{given};
-ghost use Rattle.places.specs.Places.{words_fault};
+// Lists of places by their words: document 01, refusals 7 and 8 of a call that takes a list and no
+// settings.
+ghost use Rattle.std.specs.Prelude.{◌≡◌, not};
+ghost use Rattle.std.specs.List.{position};
+ghost use Rattle.limits.specs.Refusals.{answered};
+ghost use Rattle.limits.specs.Settings.{most_activities};
+ghost use Rattle.places.specs.Places.{place_of, place_under, words_refusal};
 
-use crate::{place_of, place_under};
-use limits::MOST_ACTIVITIES;
+use crate::Place;
+use limits::{MOST_ACTIVITIES, Refusal};
 
-// The index of the first word that stands for no place, or the length of a list in which each
-// stands for one.
-pub fn first_invalid(words: &[u32]) -> usize
-    ensures bounded { result ≤ length words.now }
-    ensures fault { words_fault 0 words.now ≡ given (ltb result (length words.now)) (InvalidPlace result) }
+// Whether a word stands for no place.
+fn is_invalid(word: u32) -> bool
+    ensures { result ≡ not (place_under most_activities (place_of word)) }
 {
-    let mut at = 0;
-    while at < words.len() {
-        let word = words[at];
-        if !place_under(MOST_ACTIVITIES, place_of(word)) {
-            return at;
-        }
-        at += 1;
+    !Place::from(word).is_under(MOST_ACTIVITIES)
+}
+
+// The index of the first word that stands for no place.
+pub fn first_invalid(words: &[u32]) -> Option<usize>
+    ensures { result ≡ position (λ w. not (place_under most_activities (place_of w))) words.now }
+{
+    words.iter().position(|&word| is_invalid(word))
+}
+
+// The checks of a list, and of the buffer that a call is lent with it, which has room or not.
+pub fn check_words(words: &[u32], has_room: bool) -> Result<(), Refusal>
+    ensures { result ≡ answered (words_refusal words.now (not has_room)) tt }
+{
+    if let Some(index) = first_invalid(words) {
+        return Err(Refusal::InvalidPlace { index });
     }
-    at
+    Refusal::BufferTooSmall.unless(has_room)
 }

@@ -7,14 +7,21 @@ ghost use Rattle.reduction_spec.specs.Cover.{Listable};
 ghost use Rattle.reduction_spec.specs.Reduction.{redundant};
 ghost use Rattle.exact_cover.specs.Gathering.{gathered_after};
 
-use exact_cover::has_cover;
+use cover_choice::Remainder;
+use exact_cover::Uncovered;
 
 // Whether a place of a list is redundant, as a union of at least two others that do not overlap. A
 // buffer is lent to the search for the words that can be parts.
 pub fn is_redundant(words: &[u32], whole: u32, parts: &mut [u32]) -> bool
-    requires { Listable words.now × (place_under most_activities (place_of whole) ≡ true) }
+    requires places { Listable words.now }
+    requires place { place_under most_activities (place_of whole) ≡ true }
     ensures answer { result ≡ redundant words.now whole }
     ensures buffer { parts.new ≡ gathered_after words.now whole whole parts.old }
 {
-    has_cover(words, whole, whole, parts)
+    let rest = Remainder {
+        words,
+        whole,
+        left: whole,
+    };
+    Uncovered { rest }.has_cover(parts)
 }

@@ -1,6 +1,7 @@
 -- The definition of a reduced list, tried on the places of the source's Figure 1 and on unions and
 -- near-misses of small places.
 -- Assumes nothing.
+use Rattle.std.specs.Prelude.{Ok, Err}
 use Prim.Native.Nat.{ℕ}
 use mathlib.Core.Path.{◌≡◌, refl}
 use mathlib.Core.Bool.{true, false}
@@ -11,7 +12,6 @@ use Rattle.foundation.specs.Lists.{each_nil, each_cons}
 use Rattle.limits.specs.declared.Refusal.TheVariants.{InvalidPlace, BufferTooSmall}
 use Rattle.places.specs.Places.{place, word}
 use Rattle.places.proofs.Examples.{figure1}
-use Rattle.reduction_spec.specs.declared.Reduced.TheVariants.{Kept, Refused}
 use Rattle.reduction_spec.specs.Unions.{UnionOf}
 use Rattle.reduction_spec.specs.Cover.{usable, parts_of, choices, balanced}
 use Rattle.reduction_spec.specs.Reduction.{reduced_words, reduced, reduced_after}
@@ -49,10 +49,10 @@ pub record Examples : Type 0 where
   pub shares_output : reduced_words (pair 1 3 ∷ pair 2 6 ∷ pair 3 7 ∷ []) ≡ pair 1 3 ∷ pair 2 6 ∷ pair 3 7 ∷ []
   pub uncovered : reduced_words (pair 1 1 ∷ pair 2 2 ∷ pair 7 3 ∷ []) ≡ pair 1 1 ∷ pair 2 2 ∷ pair 7 3 ∷ []
   pub uncovered_output : reduced_words (pair 1 1 ∷ pair 2 2 ∷ pair 3 7 ∷ []) ≡ pair 1 1 ∷ pair 2 2 ∷ pair 3 7 ∷ []
-  pub answers : reduced three 4 ≡ Kept 3
-  pub none : reduced [] 0 ≡ Kept 0
-  pub too_short : reduced three 3 ≡ Refused BufferTooSmall
-  pub place_before_room : reduced (pair 1 1 ∷ pair 1 0 ∷ []) 1 ≡ Refused (InvalidPlace 1)
+  pub answers : reduced three 4 ≡ Ok 3
+  pub none : reduced [] 0 ≡ Ok 0
+  pub too_short : reduced three 3 ≡ Err BufferTooSmall
+  pub place_before_room : reduced (pair 1 1 ∷ pair 1 0 ∷ []) 1 ≡ Err (InvalidPlace 1)
   pub tail_kept : reduced_after three (9 ∷ 9 ∷ 9 ∷ 8 ∷ 7 ∷ []) ≡ pair 1 1 ∷ pair 2 2 ∷ pair 4 4 ∷ 8 ∷ 7 ∷ []
   pub refused_as_found : reduced_after three (9 ∷ 9 ∷ 9 ∷ []) ≡ 9 ∷ 9 ∷ 9 ∷ []
   -- a part has activities that are left alone, and is not the whole

@@ -1,3 +1,4 @@
 pub mod Unions
 pub mod Cover
 pub mod Reduction
+pub mod Props

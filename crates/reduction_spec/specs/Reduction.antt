@@ -1,15 +1,12 @@
 -- Reducing a list: what is kept, what the call answers and what it leaves in the second buffer.
 -- Document 01, "Thinning and writing", thinning.
 -- Assumes nothing.
-use Rattle.std.specs.Prelude.{ℕ, Bool, not, List, ltb, length}
-use Rattle.std.proofs.Math.Option.{Option}
+use Rattle.std.specs.Prelude.{ℕ, Bool, not, List, ltb, length, Option, Result}
 use Rattle.foundation.specs.Lists.{keep}
 use Rattle.foundation.specs.Buffers.{overwrite}
 use Rattle.limits.specs.declared.Refusal.{Refusal}
-use Rattle.limits.specs.Refusals.{number, value, answer}
+use Rattle.limits.specs.Refusals.{answer, answered}
 use Rattle.places.specs.Places.{place_of, words_refusal}
-use Rattle.reduction_spec.specs.declared.Reduced.{Reduced}
-use Rattle.reduction_spec.specs.declared.Reduced.TheVariants.{Kept, Refused}
 use Rattle.reduction_spec.specs.Unions.{is_union}
 
 -- a word is redundant, and dropped, exactly if its place is a union of at least two non-overlapping
@@ -26,17 +23,8 @@ unfoldable pub reduction_refusal : List ℕ → ℕ → Option Refusal
 reduction_refusal words room = words_refusal words (ltb room (length words))
 
 -- the call's answer for a second buffer of that many words: how many were kept
-unfoldable pub reduced : List ℕ → ℕ → Reduced
-reduced words room = answer Refused (reduction_refusal words room) (Kept (length (reduced_words words)))
-
--- the number of an answer, 0 where the call is not refused, and the value beside it
-unfoldable pub reduced_number : Reduced → ℕ
-reduced_number (Kept count) = 0
-reduced_number (Refused r) = number r
-
-unfoldable pub reduced_value : Reduced → ℕ
-reduced_value (Kept count) = 0
-reduced_value (Refused r) = value r
+unfoldable pub reduced : List ℕ → ℕ → Result ℕ Refusal
+reduced words room = answered (reduction_refusal words room) (length (reduced_words words))
 
 -- what the second buffer holds on return: the kept words, then its old tail; after a refusal, what
 -- it held before

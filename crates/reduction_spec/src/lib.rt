@@ -1,12 +1,3 @@
-// Removing redundant places from a list: document 01, "Thinning and writing", where it is called
-// thinning.
+// The definitions and laws of removing redundant places from a list: document 01, "Thinning and
+// writing", where it is called thinning. It has no code.
 #![tactic(auto)]
-
-use limits::Refusal;
-
-// What reducing a list answers: how many words were kept, or the refusal.
-#[derive(Drop)]
-pub enum Reduced {
-    Kept(usize),
-    Refused(Refusal),
-}

@@ -1,28 +1,21 @@
--- The steps of replaying and judging a log: the checks of a call's arguments, and the case counts
+-- The steps of replaying and judging a log: the checks of a call's place and text, and the case counts
 -- with one more frame. Document 01, "Tokens in one trace" and "Settings and the log".
 -- Assumes nothing.
-use Rattle.std.specs.Prelude.{ℕ, ◌+◌, Bool, not, List, [], ◌∷◌, pos, length, get_or, set}
+use Rattle.std.specs.Prelude.{ℕ, ◌+◌, List, [], ◌∷◌, pos, get_or, set, None, Result}
 use Rattle.std.specs.Int.Signed.{lt_z}
-use Rattle.limits.specs.declared.Refusal.TheVariants.{InvalidSetting}
-use Rattle.limits.specs.Refusals.{given, answer}
+use Rattle.limits.specs.declared.Refusal.{Refusal}
+use Rattle.limits.specs.Refusals.{answered}
 use Rattle.places.specs.declared.Place.{Place}
 use Rattle.places.specs.Places.{place_fault}
-use Rattle.event_log_spec.specs.declared.Checked.{Checked}
-use Rattle.event_log_spec.specs.declared.Checked.TheVariants.{Accepted, Refused}
-use Rattle.event_log_spec.specs.Frames.{total_cases}
-use Rattle.event_log_spec.specs.Lines.{frames_of}
-use Rattle.event_log_spec.specs.Checking.{log_refusal}
+use Rattle.event_log_spec.specs.declared.LogSize.{LogSize}
+use Rattle.event_log_spec.specs.Checking.{log_refusal, size_of}
 use Rattle.replay_spec.specs.declared.CaseCounts.{CaseCounts}
 use Rattle.replay_spec.specs.Judgement.{verdict_where, mark}
 use Rattle.token_replay.specs.declared.Tokens.{Tokens}
 
--- checking the arguments of a call on a log and a place, whose settings are in their ranges or not
-unfoldable pub arguments_checked : ℕ → Bool → List ℕ → Place → Checked
-arguments_checked A in_range text p =
-    answer
-    Refused
-    (log_refusal (given (not in_range) InvalidSetting) (place_fault A 0 p) A text)
-    (Accepted (length (frames_of text)) (total_cases (frames_of text)))
+-- checking the place and the text of a call whose settings are in their ranges
+unfoldable pub place_and_text_checked : ℕ → List ℕ → Place → Result LogSize Refusal
+place_and_text_checked A text p = answered (log_refusal None (place_fault A 0 p) A text) (size_of text)
 
 -- how many verdicts there are
 abbrev pub verdicts : ℕ

@@ -1,14 +1,15 @@
 // Judging a place over the frames of a log that was checked: document 01, "Tokens in one trace",
 // second paragraph.
 ghost use Rattle.std.specs.Prelude.{◌≡◌, ◌+◌, ◌^◌, ◌≤◌, ◌<◌, length, get_or};
-ghost use Rattle.event_log.specs.FrameIndex.{Indexed, frames_between};
+ghost use Rattle.event_log_spec.specs.Lines.{frames_of};
+ghost use Rattle.event_log.specs.FrameIndex.{frames_between};
 ghost use Rattle.replay_spec.specs.Judgement.{case_counts, cases_of, exceeds, verdict_where, verdict_of, mark};
 ghost use Rattle.replay.specs.Replaying.{verdicts, kind_of, with_cases};
 
-use event_log::index::{frame_cases, frame_digits};
+use event_log::index::IndexedLog;
 use places::Place;
 use replay_spec::{CaseCounts, Verdict};
-use token_replay::{Tokens, digit_sets, replay_trace};
+use token_replay::{DigitSets, Tokens, replay_trace};
 
 // How many verdicts there are, and counts of cases: one for each.
 const VERDICTS: usize = 4;
@@ -33,26 +34,23 @@ fn add_cases(counts: &mut [u64; VERDICTS], tokens: Tokens, cases: u64)
     counts[kind] += cases;
 }
 
-// The four case counts of a place over the frames of a log that was accepted, from one line on up
-// to another.
-pub fn count_cases(text: &[u8], index: &[u64], from: usize, to: usize, place: Place) -> CaseCounts
-    requires { Indexed text.now index.now × (to ≤ length index.now) }
-    ensures { result ≡ case_counts place (frames_between from to text.now) }
+// The four case counts of a place over the frames of a log, from one line on up to another.
+pub fn count_cases(log: &IndexedLog, from: usize, to: usize, place: Place) -> CaseCounts
+    requires { to ≤ length (frames_of log.now.text.now) }
+    ensures { result ≡ case_counts place (frames_between from to log.now.text.now) }
 {
-    let sets = digit_sets(place);
+    let sets = DigitSets::from(place);
     let mut counts = [0u64; VERDICTS];
-    let mut frame = from;
-    while frame < to {
-        let tokens = replay_trace(frame_digits(text, index, frame), sets);
-        let cases = frame_cases(index, frame);
-        add_cases(&mut counts, tokens, cases);
-        frame += 1;
+    for frame in from..to {
+        let tokens = replay_trace(log.digits(frame), sets);
+        add_cases(&mut counts, tokens, log.cases(frame));
     }
+    let [fitting, underfed, overfed, both] = counts;
     CaseCounts {
-        fitting: counts[0],
-        underfed: counts[1],
-        overfed: counts[2],
-        both: counts[3],
+        fitting,
+        underfed,
+        overfed,
+        both,
     }
 }
 
@@ -74,15 +72,10 @@ pub fn verdict_on(threshold: u16, counts: CaseCounts) -> Verdict
     let total = counts.fitting + counts.underfed + counts.overfed + counts.both;
     let underfed = share_exceeds(threshold, total, counts.underfed + counts.both);
     let overfed = share_exceeds(threshold, total, counts.overfed + counts.both);
-    if underfed {
-        if overfed {
-            Verdict::Both
-        } else {
-            Verdict::Underfed
-        }
-    } else if overfed {
-        Verdict::Overfed
-    } else {
-        Verdict::Fitting
+    match (underfed, overfed) {
+        (true, true) => Verdict::Both,
+        (true, false) => Verdict::Underfed,
+        (false, true) => Verdict::Overfed,
+        (false, false) => Verdict::Fitting,
     }
 }

@@ -2,11 +2,12 @@
 -- discussed after Definition 5 with the five places of its Figure 1, the log of that figure, and
 -- traces and places of Figure 3, where activities stand in both sets of a place.
 -- Assumes nothing.
+use Rattle.std.specs.Prelude.{Ok, Err}
 use Prim.Native.Nat.{ℕ}
 use mathlib.Core.Path.{◌≡◌, refl}
 use mathlib.Core.Bool.{true, false}
 use mathlib.Core.List.{List, [], ◌∷◌, map}
-use lib.IntN.{pos, negsuc}
+use lib.IntN.{ℤ, pos, negsuc}
 use Rattle.foundation.specs.Text.{bytes}
 use Rattle.limits.specs.declared.Refusal.TheVariants.{InvalidSetting, MalformedFrame, EmptyLog, InvalidPlace}
 use Rattle.places.specs.declared.Place.{Place}
@@ -16,8 +17,8 @@ use Rattle.event_log_spec.specs.Frames.{total_cases}
 use Rattle.event_log_spec.specs.Lines.{frames_of}
 use Rattle.event_log_spec.proofs.Examples.{figure1_log}
 use Rattle.replay_spec.specs.declared.CaseCounts.{CaseCounts}
-use Rattle.replay_spec.specs.declared.Judged.TheVariants as JudgedAs
-use Rattle.replay_spec.specs.declared.Replayed.TheVariants as ReplayedAs
+use Rattle.replay_spec.specs.declared.Balances.{Balances}
+use Rattle.replay_spec.specs.declared.Judgement.{Judgement}
 use Rattle.replay_spec.specs.declared.Verdict.{Verdict}
 use Rattle.replay_spec.specs.declared.Verdict.TheVariants.{Fitting, Underfed, Overfed, Both}
 use Rattle.replay_spec.specs.Balance.{balance_at, least_balance, last_balance, underfeeds, overfeeds}
@@ -80,17 +81,23 @@ pub record ThresholdExamples : Type 0 where
   pub each_by_itself : verdict_of 500 10 (counts 0 2 2 6) ≡ Both
   pub neither : verdict_of 500 10 (counts 0 5 5 0) ≡ Fitting
 
+abbrev balances : ℤ → ℤ → Balances
+balances least last = record { least = least; last = last }
+
+abbrev judgement : CaseCounts → Verdict → Judgement
+judgement counts verdict = record { counts = counts; verdict = verdict }
+
 pub record AnswerExamples : Type 0 where
-  pub setting_first : replayed 17 [] (place 0 0) ≡ ReplayedAs.Refused InvalidSetting
-  pub place_before_log : replayed 2 [] (place 0x0004 0x0001) ≡ ReplayedAs.Refused (InvalidPlace 0)
-  pub empty_log : replayed 2 [] (place 0x0001 0x0002) ≡ ReplayedAs.Refused EmptyLog
+  pub setting_first : replayed 17 [] (place 0 0) ≡ Err InvalidSetting
+  pub place_before_log : replayed 2 [] (place 0x0004 0x0001) ≡ Err (InvalidPlace 0)
+  pub empty_log : replayed 2 [] (place 0x0001 0x0002) ≡ Err EmptyLog
   -- the whole log is checked, though only line 0 is replayed
-  pub whole_log : replayed 2 (bytes "00010001\n0000") (place 0x0001 0x0002) ≡ ReplayedAs.Refused (MalformedFrame 1)
-  pub first_line : replayed 3 (bytes "00010001\n0001000201\n") (place 0x0001 0x0004) ≡ ReplayedAs.Balances (pos 0) (pos 1)
-  pub threshold : judged 2 1001 (bytes "00010001\n") (place 0x0001 0x0002) ≡ JudgedAs.Refused InvalidSetting
-  pub judged_no_place : judged 2 0 [] (place 0x0001 0x0004) ≡ JudgedAs.Refused (InvalidPlace 0)
-  pub judged_place : judged 5 175 figure3_log (place 0x0001 0x0004) ≡ JudgedAs.Counted (counts 31 17 49 0) Both
-  pub judged_higher : judged 5 176 figure3_log (place 0x0001 0x0004) ≡ JudgedAs.Counted (counts 31 17 49 0) Overfed
+  pub whole_log : replayed 2 (bytes "00010001\n0000") (place 0x0001 0x0002) ≡ Err (MalformedFrame 1)
+  pub first_line : replayed 3 (bytes "00010001\n0001000201\n") (place 0x0001 0x0004) ≡ Ok (balances (pos 0) (pos 1))
+  pub threshold : judged 2 1001 (bytes "00010001\n") (place 0x0001 0x0002) ≡ Err InvalidSetting
+  pub judged_no_place : judged 2 0 [] (place 0x0001 0x0004) ≡ Err (InvalidPlace 0)
+  pub judged_place : judged 5 175 figure3_log (place 0x0001 0x0004) ≡ Ok (judgement (counts 31 17 49 0) Both)
+  pub judged_higher : judged 5 176 figure3_log (place 0x0001 0x0004) ≡ Ok (judgement (counts 31 17 49 0) Overfed)
 
 pub trace_examples : TraceExamples
 unfolding opened

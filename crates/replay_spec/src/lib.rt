@@ -5,14 +5,12 @@
 ghost use Rattle.std.specs.Prelude.{◌≡◌};
 ghost use Rattle.replay_spec.specs.Judgement.{mark};
 
-use limits::Refusal;
-
 // What replaying the first trace of a log answers: the least balance and the balance after the last
 // event, the low and the end of document 01.
 #[derive(Drop)]
-pub enum Replayed {
-    Balances { least: i16, last: i16 },
-    Refused(Refusal),
+pub struct Balances {
+    pub least: i16,
+    pub last: i16,
 }
 
 // The four case counts of a place over a log: fitting, underfed only, overfed only, and both.
@@ -25,7 +23,7 @@ pub struct CaseCounts {
 }
 
 // What a place is over a log at a threshold.
-#[derive(Drop)]
+#[derive(Clone, Copy, Drop)]
 pub enum Verdict {
     Fitting,
     Underfed,
@@ -33,25 +31,24 @@ pub enum Verdict {
     Both,
 }
 
-// The answer of judging a place: the case counts and the verdict, or the refusal.
-#[derive(Drop)]
-pub enum Judged {
-    Counted {
-        counts: CaseCounts,
-        verdict: Verdict,
-    },
-    Refused(Refusal),
+impl Verdict {
+    // The number of a verdict, 0 of fitting.
+    #[tactic(auto, unfolding(crate::specs::Judgement::mark))]
+    pub fn mark(self) -> u8
+        ensures { result ≡ mark self }
+    {
+        match self {
+            Verdict::Fitting => 0,
+            Verdict::Underfed => 1,
+            Verdict::Overfed => 2,
+            Verdict::Both => 3,
+        }
+    }
 }
 
-// The number of a verdict, 0 of fitting.
-#[tactic(auto, unfolding(crate::specs::Judgement::mark))]
-pub fn mark_of(verdict: Verdict) -> u8
-    ensures { result ≡ mark verdict }
-{
-    match verdict {
-        Verdict::Fitting => 0,
-        Verdict::Underfed => 1,
-        Verdict::Overfed => 2,
-        Verdict::Both => 3,
-    }
+// What judging a place answers: its case counts and the verdict on it.
+#[derive(Drop)]
+pub struct Judgement {
+    pub counts: CaseCounts,
+    pub verdict: Verdict,
 }

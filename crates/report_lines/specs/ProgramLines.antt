@@ -2,17 +2,17 @@
 -- input, and the last line from what a run answers. Document 01, "Thinning and writing", last
 -- paragraph.
 -- Assumes nothing.
-use Rattle.std.specs.Prelude.{ℕ, cond, List, [], ◌∷◌, ◌++◌}
+use Rattle.std.specs.Prelude.{ℕ, cond, List, [], ◌∷◌, ◌++◌, Option, None, Some}
+use Rattle.limits.specs.declared.Settings.{Settings}
 use Rattle.hex_digits.specs.Digits.{write_hex, line_feed}
 use Rattle.discovery_spec.specs.declared.Run.{Run}
-use Rattle.report_lines.specs.declared.SettingsFrame.{SettingsFrame}
-use Rattle.report_lines.specs.declared.SettingsFrame.TheVariants.{Read, Malformed}
+use Rattle.discovery_spec.specs.Search.{end_number}
 use Rattle.reporter_spec.specs.Program.{settings_malformed, settings_in, end_digits, value_digits}
 
--- the settings frame of an input: its settings, or that it is malformed
-unfoldable pub settings_frame_in : List ℕ → SettingsFrame
-settings_frame_in input = cond (settings_malformed input) Malformed (Read (settings_in input))
+-- the settings frame of an input: its settings, or none where it is malformed
+unfoldable pub settings_frame_in : List ℕ → Option Settings
+settings_frame_in input = cond (settings_malformed input) None (Some (settings_in input))
 
 -- the last line, from what a run answers: its end, its replays, its visits
 unfoldable pub run_line : Run → List ℕ
-run_line x = write_hex end_digits x.end ++ write_hex value_digits x.replays ++ write_hex value_digits x.visits ++ (line_feed ∷ [])
+run_line x = write_hex end_digits (end_number x.end) ++ write_hex value_digits x.replays ++ write_hex value_digits x.visits ++ (line_feed ∷ [])

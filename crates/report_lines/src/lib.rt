@@ -2,8 +2,6 @@
 // listing. Document 01, "Thinning and writing", last paragraph.
 #![tactic(auto)]
 
-use limits::Settings;
-
 pub mod lines; // lines.rt: what is written after a listing
 pub mod settings_frame; // settings_frame.rt: the settings that an input begins with
 
@@ -17,13 +15,6 @@ const VALUE_DIGITS: usize = 8;
 const RUN_DIGITS: usize = END_DIGITS + 2 * VALUE_DIGITS;
 
 pub const RUN_BYTES: usize = RUN_DIGITS + 1;
-
-// What the first line of an input is: the settings that it writes, or no settings frame.
-#[derive(Drop)]
-pub enum SettingsFrame {
-    Read(Settings),
-    Malformed,
-}
 
 // The digits of A, mi and mo each, and of T.
 const BOUND_DIGITS: usize = 2;

@@ -8,7 +8,7 @@ ghost use Rattle.report_lines.specs.ProgramLines.{run_line};
 use crate::{END_DIGITS, RUN_BYTES, RUN_DIGITS, VALUE_DIGITS};
 use discovery_spec::Run;
 use hex_digits::hex::write_hex;
-use limits::{Refusal, number_of, value_of};
+use limits::Refusal;
 use log_lines::LINE_FEED;
 use writer::write_lines;
 
@@ -34,9 +34,9 @@ pub fn write_refusal(refusal: Refusal, output: &mut [u8]) -> usize
     ensures text { output.new ≡ overwrite (refusal_line refusal) output.old }
 {
     write_hex(0xFF, &mut output[0..NUMBER_AT]);
-    write_hex(number_of(refusal) as u64, &mut output[NUMBER_AT..VALUE_AT]);
+    write_hex(refusal.number() as u64, &mut output[NUMBER_AT..VALUE_AT]);
     write_hex(
-        value_of(refusal) as u64,
+        refusal.value() as u64,
         &mut output[VALUE_AT..REFUSAL_DIGITS],
     );
     output[REFUSAL_DIGITS] = LINE_FEED;
@@ -49,7 +49,7 @@ fn write_run(run: Run, output: &mut [u8]) -> usize
     ensures count { result ≡ length (run_line run) }
     ensures text { output.new ≡ overwrite (run_line run) output.old }
 {
-    write_hex(run.end, &mut output[0..REPLAYS_AT]);
+    write_hex(run.end.number(), &mut output[0..REPLAYS_AT]);
     write_hex(run.replays as u64, &mut output[REPLAYS_AT..VISITS_AT]);
     write_hex(run.visits as u64, &mut output[VISITS_AT..RUN_DIGITS]);
     output[RUN_DIGITS] = LINE_FEED;

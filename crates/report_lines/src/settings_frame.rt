@@ -3,8 +3,7 @@
 ghost use Rattle.std.specs.Prelude.{◌≡◌};
 ghost use Rattle.report_lines.specs.ProgramLines.{settings_frame_in};
 
-use crate::{BOUND_DIGITS, SETTINGS_DIGITS, SettingsFrame};
-use hex_digits::Number;
+use crate::{BOUND_DIGITS, SETTINGS_DIGITS};
 use hex_digits::hex::read_hex;
 use limits::Settings;
 use log_lines::LINE_FEED;
@@ -16,32 +15,20 @@ const OUTPUTS_AT: usize = 2 * BOUND_DIGITS;
 
 const THRESHOLD_AT: usize = 3 * BOUND_DIGITS;
 
-// The settings that an input begins with: the digits of A, mi, mo and T, and a line feed.
-pub fn settings_in(input: &[u8]) -> SettingsFrame
+// The settings that an input begins with, if it does: the digits of A, mi, mo and T, and a line feed.
+pub fn settings_in(input: &[u8]) -> Option<Settings>
     ensures { result ≡ settings_frame_in input.now }
 {
     if input.len() <= SETTINGS_DIGITS {
-        return SettingsFrame::Malformed;
+        return None;
     }
     if input[SETTINGS_DIGITS] != LINE_FEED {
-        return SettingsFrame::Malformed;
+        return None;
     }
-    let Number::Value(activities) = read_hex(&input[0..INPUTS_AT]) else {
-        return SettingsFrame::Malformed;
-    };
-    let Number::Value(inputs) = read_hex(&input[INPUTS_AT..OUTPUTS_AT]) else {
-        return SettingsFrame::Malformed;
-    };
-    let Number::Value(outputs) = read_hex(&input[OUTPUTS_AT..THRESHOLD_AT]) else {
-        return SettingsFrame::Malformed;
-    };
-    let Number::Value(threshold) = read_hex(&input[THRESHOLD_AT..SETTINGS_DIGITS]) else {
-        return SettingsFrame::Malformed;
-    };
-    SettingsFrame::Read(Settings {
-        activities: activities as u8,
-        inputs: inputs as u8,
-        outputs: outputs as u8,
-        threshold: threshold as u16,
+    Some(Settings {
+        activities: read_hex(&input[..INPUTS_AT])? as u8,
+        inputs: read_hex(&input[INPUTS_AT..OUTPUTS_AT])? as u8,
+        outputs: read_hex(&input[OUTPUTS_AT..THRESHOLD_AT])? as u8,
+        threshold: read_hex(&input[THRESHOLD_AT..SETTINGS_DIGITS])? as u16,
     })
 }

@@ -1,17 +1,14 @@
 -- All of placelist but its reads and writes, as one call on the bytes read and a buffer for those
 -- to be written. Document 01, "Thinning and writing", last paragraph.
 -- Assumes nothing.
-use Rattle.std.specs.Prelude.{ℕ, ◌+◌, ◌*◌, List, ltb, length}
-use Rattle.std.proofs.Math.Option.{Option}
+use Rattle.std.specs.Prelude.{ℕ, ◌+◌, ◌*◌, List, ltb, length, Option, Result}
 use Rattle.foundation.specs.Buffers.{overwrite}
 use Rattle.limits.specs.declared.Refusal.{Refusal}
 use Rattle.limits.specs.declared.Refusal.TheVariants.{BufferTooSmall}
 use Rattle.limits.specs.declared.Settings.{Settings}
-use Rattle.limits.specs.Refusals.{given, answer}
+use Rattle.limits.specs.Refusals.{given, answer, answered}
 use Rattle.discovery_spec.specs.Discovery.{run, run_refusal}
 use Rattle.writer.specs.Writing.{line_bytes}
-use Rattle.writer.specs.declared.Written.{Written}
-use Rattle.writer.specs.declared.Written.TheVariants.{Bytes, Refused}
 use Rattle.reporter_spec.specs.Program.{list_words, capacity, result_bytes, refusal_line, report, placelist}
 
 -- what is written of a log under settings
@@ -27,8 +24,8 @@ unfoldable pub reporting_refusal : ℕ → Option Refusal
 reporting_refusal room = given (ltb room most_output) BufferTooSmall
 
 -- the call's answer for a buffer of that many bytes: the bytes written
-unfoldable pub reported : List ℕ → ℕ → Written
-reported input room = answer Refused (reporting_refusal room) (Bytes (length (placelist input)))
+unfoldable pub reported : List ℕ → ℕ → Result ℕ Refusal
+reported input room = answered (reporting_refusal room) (length (placelist input))
 
 -- what the buffer holds on return: what placelist writes, then its old tail; after a refusal, what
 -- it held before

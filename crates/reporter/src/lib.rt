@@ -4,18 +4,16 @@
 
 ghost use Rattle.std.specs.Prelude.{◌≡◌, ◌≤◌, length};
 ghost use Rattle.foundation.specs.Buffers.{overwrite};
-ghost use Rattle.limits.specs.Refusals.{Numbered};
-ghost use Rattle.writer.specs.Writing.{written_number, written_value};
+ghost use Rattle.limits.specs.Refusals.{Numbered, answer_number, answer_value};
 ghost use Rattle.reporter_spec.specs.Program.{placelist};
 ghost use Rattle.reporter.specs.Reporting.{log_report, most_output, reporting_refusal, reported, output_after};
 
 use limits::{Refusal, Settings};
 use listing::{Listing, list_places};
-use reduction_spec::Reduced;
 use report_lines::lines::{write_refusal, write_report};
 use report_lines::settings_frame::settings_in;
-use report_lines::{RUN_BYTES, SETTINGS_BYTES, SettingsFrame};
-use writer::{LINE_BYTES, Written};
+use report_lines::{RUN_BYTES, SETTINGS_BYTES};
+use writer::LINE_BYTES;
 
 // The most bytes that the input may have; with more it is too large (oversize).
 pub const MOST_INPUT: usize = 65536;
@@ -49,15 +47,15 @@ fn report_log(settings: Settings, text: &[u8], output: &mut [u8]) -> usize
         &mut found,
         &mut kept,
     ) {
-        Listing::Refused(refusal) => write_refusal(refusal, output),
-        Listing::Incomplete(run) => {
+        Err(refusal) => write_refusal(refusal, output),
+        Ok(Listing::Incomplete(run)) => {
             let count = run.found;
             write_report(&found[..count], run, output)
         }
-        Listing::Complete { run, reduced } => match reduced {
-            Reduced::Kept(count) => write_report(&kept[..count], run, output),
+        Ok(Listing::Complete { run, reduced }) => match reduced {
+            Ok(count) => write_report(&kept[..count], run, output),
             // never so: what was found are places, and the second buffer takes all of them
-            Reduced::Refused(refusal) => write_refusal(refusal, output),
+            Err(refusal) => write_refusal(refusal, output),
         },
     }
 }
@@ -73,20 +71,18 @@ fn report_input(input: &[u8], output: &mut [u8]) -> usize
         return write_refusal(Refusal::TooLarge { line: 0 }, output);
     }
     match settings_in(input) {
-        SettingsFrame::Malformed => write_refusal(Refusal::InvalidSetting, output),
-        SettingsFrame::Read(settings) => report_log(settings, &input[SETTINGS_BYTES..], output),
+        Some(settings) => report_log(settings, &input[SETTINGS_BYTES..], output),
+        None => write_refusal(Refusal::InvalidSetting, output),
     }
 }
 
 // Writes what placelist writes for an input, and answers how many bytes that is. A buffer that is
 // too short for the longest output is refused, and left as it was; a longer one keeps its tail.
-pub fn report_places(input: &[u8], output: &mut [u8]) -> Written
+pub fn report_places(input: &[u8], output: &mut [u8]) -> Result<usize, Refusal>
     ensures answer { result ≡ reported input.now (length output.old) }
     ensures output { output.new ≡ output_after input.now output.old }
-    ensures numbered { Numbered (reporting_refusal (length output.old)) (written_number result) (written_value result) }
+    ensures numbered { Numbered (reporting_refusal (length output.old)) (answer_number result) (answer_value result) }
 {
-    if output.len() < MOST_OUTPUT {
-        return Written::Refused(Refusal::BufferTooSmall);
-    }
-    Written::Bytes(report_input(input, output))
+    Refusal::BufferTooSmall.unless(MOST_OUTPUT <= output.len())?;
+    Ok(report_input(input, output))
 }

@@ -4,6 +4,7 @@ use mathlib.Core.Path.{◌≡◌, refl}
 use mathlib.Core.List.{[], ◌∷◌}
 use lib.ListN.{replicate}
 use Rattle.foundation.specs.Text.{bytes}
+use Rattle.discovery_spec.specs.declared.End.TheVariants.{BudgetSpent}
 use Rattle.discovery_spec.specs.Search.{State, going, stopped}
 use Rattle.reporter_spec.specs.Program.{capacity, report, placelist}
 use Rattle.reporter_spec.proofs.Opened.{opened}
@@ -23,7 +24,7 @@ pub record ProgramExamples : Type 0 where
   pub given : capacity ≡ record { rejected = 1024; found = 4096; budget = 1000000 }
   -- reduced after end 0, and as found otherwise
   pub completed : report (going state) ≡ bytes "00010001\n00020002\n00000000FF00001000\n"
-  pub stopped_early : report (stopped 1 state) ≡ bytes "00010001\n00020002\n00030003\n01000000FF00001000\n"
+  pub stopped_early : report (stopped BudgetSpent state) ≡ bytes "00010001\n00020002\n00030003\n01000000FF00001000\n"
   pub oversize : placelist (replicate 65537 48) ≡ bytes "FF0500000000\n"
   pub largest : placelist (replicate 65536 48) ≡ bytes "FF0100000000\n"
   pub no_input : placelist [] ≡ bytes "FF0100000000\n"

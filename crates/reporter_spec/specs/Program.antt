@@ -1,15 +1,14 @@
 -- The program placelist, from the bytes that it reads to the bytes that it writes. Document 01,
 -- "Thinning and writing", last paragraph.
 -- Assumes nothing.
-use Rattle.std.specs.Prelude.{ℕ, ◌+◌, ◌*◌, Bool, not, cond, ◌&&◌, List, [], ◌∷◌, ◌++◌, eqb, ltb, length, get_or, take, drop}
-use Rattle.std.proofs.Math.Option.{Option}
+use Rattle.std.specs.Prelude.{ℕ, ◌+◌, ◌*◌, Bool, not, cond, ◌&&◌, List, [], ◌∷◌, ◌++◌, eqb, ltb, length, get_or, take, drop, Option}
 use Rattle.foundation.specs.Lists.{all}
 use Rattle.limits.specs.declared.Refusal.{Refusal}
 use Rattle.limits.specs.declared.Refusal.TheVariants.{InvalidSetting, TooLarge}
 use Rattle.limits.specs.declared.Settings.{Settings}
 use Rattle.limits.specs.Refusals.{number, value, given, first_of, answer}
 use Rattle.hex_digits.specs.Digits.{is_digit, read_hex, write_hex, line_feed}
-use Rattle.discovery_spec.specs.Search.{Capacity, holding, completed, Progress, end_of, state_of}
+use Rattle.discovery_spec.specs.Search.{Capacity, holding, end_number, is_completed, Progress, end_of, state_of}
 use Rattle.discovery_spec.specs.Discovery.{run, run_refusal}
 use Rattle.reduction_spec.specs.Reduction.{reduced_words}
 use Rattle.writer.specs.Writing.{list_text}
@@ -83,7 +82,7 @@ refusal_bytes = 2 * end_digits + value_digits + 1
 -- the last line: the end, the replays, the visits
 unfoldable pub result_line : Progress → List ℕ
 result_line p =
-    write_hex end_digits (end_of p) ++ write_hex value_digits (state_of p).replays ++ write_hex value_digits (state_of p).visits ++ (line_feed ∷ [])
+    write_hex end_digits (end_number (end_of p)) ++ write_hex value_digits (state_of p).replays ++ write_hex value_digits (state_of p).visits ++ (line_feed ∷ [])
 
 -- its bytes
 abbrev pub result_bytes : ℕ
@@ -91,7 +90,7 @@ result_bytes = end_digits + 2 * value_digits + 1
 
 -- the list that it writes: reduced if the run completed, as found otherwise
 unfoldable pub reported_words : Progress → List ℕ
-reported_words p = cond (eqb (end_of p) completed) (reduced_words (state_of p).found) (state_of p).found
+reported_words p = cond (is_completed (end_of p)) (reduced_words (state_of p).found) (state_of p).found
 
 -- the list, then the last line
 unfoldable pub report : Progress → List ℕ

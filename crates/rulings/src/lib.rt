@@ -2,12 +2,14 @@
 #![tactic(auto)]
 
 ghost use Rattle.std.specs.Prelude.{◌≡◌, ◌||◌, eqb};
+ghost use Rattle.replay_spec.specs.Judgement.{mark};
 ghost use Rattle.discovery_spec.specs.Rejected.{mark_in, place_in, rules_underfed, rules_overfed};
 ghost use Rattle.rulings.specs.Rulings.{ruling_of};
 
 use candidate_order::is_lighter;
 use discovery_spec::MARK_UNIT;
-use places::{Place, place_of};
+use places::Place;
+use replay_spec::Verdict;
 
 // Which way the words of rejected places rule a candidate.
 #[derive(Drop)]
@@ -22,49 +24,32 @@ pub enum Ruling {
 fn place_in(word: u64) -> Place
     ensures { result ≡ place_in word }
 {
-    place_of((word % MARK_UNIT) as u32)
+    Place::from((word % MARK_UNIT) as u32)
 }
 
-// Whether a word is marked as underfed, alone or with overfed.
+// Whether a word is marked as underfed or as overfed, alone or as both.
 #[tactic(auto, unfolding(discovery_spec::specs::Rejected::mark_in))]
-fn marked_underfed(word: u64) -> bool
-    ensures { result ≡ (eqb (mark_in word) 1 || eqb (mark_in word) 3) }
+fn is_marked(word: u64, verdict: Verdict) -> bool
+    ensures { result ≡ (eqb (mark_in word) (mark verdict) || eqb (mark_in word) 3) }
 {
     let mark = word / MARK_UNIT;
-    mark == 1 || mark == 3
-}
-
-// Whether a word is marked as overfed, alone or with underfed.
-#[tactic(auto, unfolding(discovery_spec::specs::Rejected::mark_in))]
-fn marked_overfed(word: u64) -> bool
-    ensures { result ≡ (eqb (mark_in word) 2 || eqb (mark_in word) 3) }
-{
-    let mark = word / MARK_UNIT;
-    mark == 2 || mark == 3
+    mark == verdict.mark() as u64 || mark == 3
 }
 
 // Whether a word rules a candidate underfed, as one that is at least as light as its place.
-#[tactic(auto, unfolding(discovery_spec::specs::Rejected::rules_underfed))]
+#[tactic(auto, unfolding(discovery_spec::specs::Rejected::rules_underfed, replay_spec::specs::Judgement::mark))]
 fn rules_underfed(word: u64, candidate: Place) -> bool
     ensures { result ≡ rules_underfed candidate word }
 {
-    if marked_underfed(word) {
-        is_lighter(candidate, place_in(word))
-    } else {
-        false
-    }
+    is_marked(word, Verdict::Underfed) && is_lighter(candidate, place_in(word))
 }
 
 // Whether a word rules a candidate overfed, as one that its place is at least as light as.
-#[tactic(auto, unfolding(discovery_spec::specs::Rejected::rules_overfed))]
+#[tactic(auto, unfolding(discovery_spec::specs::Rejected::rules_overfed, replay_spec::specs::Judgement::mark))]
 fn rules_overfed(word: u64, candidate: Place) -> bool
     ensures { result ≡ rules_overfed candidate word }
 {
-    if marked_overfed(word) {
-        is_lighter(place_in(word), candidate)
-    } else {
-        false
-    }
+    is_marked(word, Verdict::Overfed) && is_lighter(place_in(word), candidate)
 }
 
 // Which way some words rule a candidate. One that rules it overfed decides at once.
@@ -73,14 +58,11 @@ pub fn ruling_by(words: &[u64], candidate: Place) -> Ruling
     ensures { result ≡ ruling_of words.now candidate }
 {
     let mut underfed = false;
-    let mut at = 0;
-    while at < words.len() {
-        let word = words[at];
-        if rules_overfed(word, candidate) {
+    for word in words {
+        if rules_overfed(*word, candidate) {
             return Ruling::AsOverfed;
         }
-        underfed = underfed | rules_underfed(word, candidate);
-        at += 1;
+        underfed |= rules_underfed(*word, candidate);
     }
     if underfed {
         Ruling::AsUnderfed

@@ -11,21 +11,6 @@ ghost use Rattle.token_replay.specs.Tokens.{by_digit, digit_sets, after_digit, a
 
 use places::Place;
 
-// The token balance after the events so far, and the least balance at any of them, 0 before the
-// first: the low of document 01 at the end.
-#[derive(Drop)]
-pub struct Tokens {
-    pub balance: i16,
-    pub least: i16,
-}
-
-// The two sets of a place as sets of digits in place of codes.
-#[derive(Clone, Copy, Drop)]
-pub struct DigitSets {
-    pub inputs: u32,
-    pub outputs: u32,
-}
-
 // A set of codes as a set of digits, each by the last five bits of its byte: of 0 to 9 these are 16
 // to 25, and of A to F 1 to 6.
 fn by_digit(set: u16) -> u32
@@ -34,41 +19,50 @@ fn by_digit(set: u16) -> u32
     (set % 1024) as u32 * 65536 + (set / 1024) as u32 * 2
 }
 
-// The sets of a place by digit, so that a digit need not be decoded to look it up.
-pub fn digit_sets(place: Place) -> DigitSets
-    ensures { result ≡ digit_sets place }
-{
-    DigitSets {
-        inputs: by_digit(place.inputs),
-        outputs: by_digit(place.outputs),
+// The two sets of a place as sets of digits in place of codes, so that a digit need not be decoded
+// to look it up.
+#[derive(Clone, Copy, Drop)]
+pub struct DigitSets {
+    pub inputs: u32,
+    pub outputs: u32,
+}
+
+impl From<Place> for DigitSets {
+    ghost from_gives = { λ place result. result ≡ digit_sets place };
+
+    fn from(place: Place) -> Self {
+        DigitSets {
+            inputs: by_digit(place.inputs),
+            outputs: by_digit(place.outputs),
+        }
     }
 }
 
-// The tokens after one more event: it takes before it gives, so that an activity in both sets does
-// not feed itself.
-fn replay_event(tokens: Tokens, sets: DigitSets, digit: u8) -> Tokens
-    requires { mag tokens.balance ≤ 2 * most_events }
-    ensures { result ≡ after_digit sets tokens digit }
-{
-    let bit = digit % 32;
-    let taken = tokens.balance - ((sets.outputs >> bit) % 2) as i16;
-    let balance = taken + ((sets.inputs >> bit) % 2) as i16;
-    if tokens.least <= taken {
-        Tokens {
-            balance,
-            least: tokens.least,
-        }
-    } else {
-        Tokens {
-            balance,
-            least: taken,
-        }
+// The token balance after the events so far, and the least balance at any of them, 0 before the
+// first: the low of document 01 at the end.
+#[derive(Clone, Copy, Drop)]
+pub struct Tokens {
+    pub balance: i16,
+    pub least: i16,
+}
+
+impl Tokens {
+    // The tokens after one more event: it takes before it gives, so that an activity in both sets
+    // does not feed itself.
+    fn after(self, sets: DigitSets, digit: u8) -> Tokens
+        requires { mag self.balance ≤ 2 * most_events }
+        ensures { result ≡ after_digit sets self digit }
+    {
+        let bit = digit % 32;
+        let taken = self.balance - ((sets.outputs >> bit) % 2) as i16;
+        let least = self.least.min(taken);
+        let balance = taken + ((sets.inputs >> bit) % 2) as i16;
+        Tokens { balance, least }
     }
 }
 
 // The tokens after a trace, from its digits, two for each activity. Codes are below 16, so the
-// second digit is the code. All events are replayed, also after a token was missing, and two in a
-// turn, which takes fewer steps.
+// second digit is the code. All events are replayed, also after a token was missing.
 pub fn replay_trace(digits: &[u8], sets: DigitSets) -> Tokens
     requires { (length digits.now ≤ 2 * most_events) × (all is_digit digits.now ≡ true) }
     ensures { (place : Place) → sets ≡ digit_sets place → result ≡ after_trace place (codes_in digits.now) }
@@ -77,14 +71,8 @@ pub fn replay_trace(digits: &[u8], sets: DigitSets) -> Tokens
         balance: 0,
         least: 0,
     };
-    let mut at = 1;
-    while at + 2 < digits.len() {
-        let first = replay_event(tokens, sets, digits[at]);
-        tokens = replay_event(first, sets, digits[at + 2]);
-        at += 4;
-    }
-    if at < digits.len() {
-        return replay_event(tokens, sets, digits[at]);
+    for pair in digits.chunks_exact(2) {
+        tokens = tokens.after(sets, pair[1]);
     }
     tokens
 }

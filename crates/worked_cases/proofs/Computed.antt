@@ -8,11 +8,10 @@ use mathlib.Core.Path.{◌≡◌, refl, ap, sym, subst, ◌∙◌}
 use mathlib.Core.Logic.{⊎_elim}
 use lib.Dec.{lit<}
 use Rattle.limits.specs.declared.Refusal.TheVariants.{MalformedFrame, UnknownActivity, MisplacedEndpoint, EmptyLog}
-use Rattle.limits.specs.Refusals.{answer}
+use Rattle.limits.specs.Refusals.{answered}
 use Rattle.places.specs.Candidates.{candidates}
 use Rattle.event_log_spec.specs.Lines.{frames_of}
 use Rattle.replay_spec.specs.Judgement.{verdict}
-use Rattle.discovery_spec.specs.declared.Discovered.TheVariants.{Ran, Refused}
 use Rattle.discovery_spec.specs.Search.{Progress, holding, state_of}
 use Rattle.discovery_spec.specs.Discovery.{run, run_refusal, summary, discovered}
 use Rattle.discovery_spec.proofs.laws.LargerCache.{larger_cache}
@@ -34,7 +33,7 @@ from_16 more =
     record {
       finds = ap (λ (p : Progress). (state_of p).found) (same_run more) ∙ at_16.finds;
       answers =
-          ap (λ (p : Progress). answer Refused (run_refusal settings single) (Ran (summary p))) (same_run more)
+          ap (λ (p : Progress). answered (run_refusal settings single) (summary p)) (same_run more)
           ∙ at_16.answers;
     }
 

@@ -1,25 +1,23 @@
 -- The worked cases of document 01, "Replays worth keeping", as rows of one statement: M1 to M12
 -- with every figure of the table and of the paragraph below it, and the case of placelist.
 -- proofs/Computed.antt proves it. Assumes nothing.
-use Rattle.std.specs.Prelude.{ℕ, ◌≤◌, ◌≡◌, List, [], ◌∷◌, map, ℤ, pos, neg_ℤ}
+use Rattle.std.specs.Prelude.{ℕ, ◌≤◌, ◌≡◌, List, [], ◌∷◌, map, ℤ, pos, neg_ℤ, Result, Ok, Err}
 use Rattle.foundation.specs.Text.{bytes}
 use Rattle.limits.specs.declared.Refusal.{Refusal}
 use Rattle.limits.specs.declared.Settings.{Settings}
 use Rattle.limits.specs.Refusals.{number, value}
 use Rattle.places.specs.Places.{place, word}
-use Rattle.event_log_spec.specs.declared.Checked.{Checked}
-use Rattle.event_log_spec.specs.declared.Checked.TheVariants.{Accepted, Refused}
-use Rattle.event_log_spec.specs.Checking.{checked}
-use Rattle.replay_spec.specs.declared.Judged.TheVariants.{Counted}
-use Rattle.replay_spec.specs.declared.Replayed.TheVariants.{Balances}
+use Rattle.event_log_spec.specs.declared.LogSize.{LogSize}
+use Rattle.event_log_spec.specs.Checking.{log_size, checked}
+use Rattle.replay_spec.specs.declared.Balances.{Balances}
 use Rattle.replay_spec.specs.declared.Verdict.TheVariants.{Fitting, Overfed}
 use Rattle.replay_spec.specs.declared.CaseCounts.{CaseCounts}
 use Rattle.replay_spec.specs.Judgement.{overfed_cases}
 use Rattle.replay_spec.specs.Answers.{replayed, judged}
-use Rattle.discovery_spec.specs.declared.Discovered.TheVariants.{Ran}
+use Rattle.discovery_spec.specs.declared.End.{End}
+use Rattle.discovery_spec.specs.declared.End.TheVariants.{Completed, BudgetSpent, ListFull}
 use Rattle.discovery_spec.specs.Search.{holding, state_of}
 use Rattle.discovery_spec.specs.Discovery.{run, discovered}
-use Rattle.reduction_spec.specs.declared.Reduced.TheVariants.{Kept}
 use Rattle.reduction_spec.specs.Reduction.{reduced, reduced_words}
 use Rattle.reporter_spec.specs.Program.{placelist}
 
@@ -27,9 +25,9 @@ abbrev pub minus : ℕ → ℤ
 minus n = neg_ℤ (pos n)
 
 -- checking refuses with this number, and this value beside it
-pub record RefusedWith (n v : ℕ) (c : Checked) : Type 0 where
+pub record RefusedWith (n v : ℕ) (c : Result LogSize Refusal) : Type 0 where
   pub why : Refusal
-  pub refused : c ≡ Refused why
+  pub refused : c ≡ Err why
   pub numbered : number why ≡ n
   pub beside : value why ≡ v
 
@@ -52,10 +50,10 @@ abbrev pub variant_counts : CaseCounts
 variant_counts = record { fitting = 58; underfed = 0; overfed = 42; both = 0 }
 
 pub record M7 : Type 0 where
-  pub cases : checked 6 variants ≡ Accepted 4 100
+  pub cases : checked 6 variants ≡ Ok (log_size 4 100)
   pub overfed : overfed_cases variant_counts ≡ 42
-  pub at_419 : judged 6 419 variants (place 0x0001 0x0010) ≡ Counted variant_counts Overfed
-  pub at_420 : judged 6 420 variants (place 0x0001 0x0010) ≡ Counted variant_counts Fitting
+  pub at_419 : judged 6 419 variants (place 0x0001 0x0010) ≡ Ok (record { counts = variant_counts; verdict = Overfed })
+  pub at_420 : judged 6 420 variants (place 0x0001 0x0010) ≡ Ok (record { counts = variant_counts; verdict = Fitting })
 
 -- M11's settings, and the places that it lists
 abbrev pub settings : Settings
@@ -66,35 +64,39 @@ found_words = map word (place 0x0001 0x0002 ∷ place 0x0004 0x0002 ∷ place 0x
 
 -- a run of M11: its shelf, its list and its allowance; what it lists; and of its answer end,
 -- listed, shelved, replays and visits
-pub record M11Run (rejected_room found_room budget : ℕ) (words : List ℕ) (end found rejected replays visits : ℕ) : Type 0 where
+pub record M11Run (rejected_room found_room budget : ℕ) (words : List ℕ) (end : End) (found rejected replays visits : ℕ) : Type 0 where
   pub finds :
       (state_of (run settings single (holding rejected_room found_room budget))).found ≡ words
   pub answers :
       discovered settings single (holding rejected_room found_room budget)
-      ≡ Ran (record { end = end; found = found; rejected = rejected; replays = replays; visits = visits })
+      ≡ Ok (record { end = end; found = found; rejected = rejected; replays = replays; visits = visits })
 
 -- a shelf of 15 or more
 abbrev pub LargeCache : ℕ → Type 0
-LargeCache n = M11Run n 4 36 found_words 0 4 15 19 36
+LargeCache n = M11Run n 4 36 found_words Completed 4 15 19 36
 
 pub record M11 : Type 0 where
   pub cache_15_or_more : (n : ℕ) → 15 ≤ n → LargeCache n
-  pub cache_1 : M11Run 1 4 36 found_words 0 4 1 34 36
-  pub cache_0 : M11Run 0 4 36 found_words 0 4 0 36 36
-  pub cache_4_budget_4 : M11Run 4 4 4 [] 1 0 4 4 18
-  pub cache_15_list_0 : M11Run 15 0 36 [] 2 0 4 5 19
+  pub cache_1 : M11Run 1 4 36 found_words Completed 4 1 34 36
+  pub cache_0 : M11Run 0 4 36 found_words Completed 4 0 36 36
+  pub cache_4_budget_4 : M11Run 4 4 4 [] BudgetSpent 0 4 4 18
+  pub cache_15_list_0 : M11Run 15 0 36 [] ListFull 0 4 5 19
 
 pub record M12 : Type 0 where
   pub kept : reduced_words found_words ≡ map word (place 0x0001 0x0002 ∷ place 0x0004 0x0002 ∷ place 0x0001 0x0004 ∷ [])
-  pub answers : reduced found_words 4 ≡ Kept 3
+  pub answers : reduced found_words 4 ≡ Ok 3
+
+-- replaying answers a low and an end
+abbrev pub with_balances : ℤ → ℤ → Result Balances Refusal
+with_balances least last = Ok (record { least = least; last = last })
 
 pub record WorkedCases : Type 0 where
-  pub m1 : replayed 6 sequence (place 0x0001 0x0004) ≡ Balances (pos 0) (pos 0)
-  pub m2 : replayed 6 sequence (place 0x0004 0x0030) ≡ Balances (minus 1) (minus 1)
-  pub m3 : replayed 6 sequence (place 0x0030 0x0002) ≡ Balances (pos 0) (pos 1)
-  pub m4 : replayed 6 repeated (place 0x0004 0x0030) ≡ Balances (minus 1) (pos 1)
-  pub m5 : replayed 6 repeated (place 0x0001 0x0004) ≡ Balances (minus 1) (minus 1)
-  pub m6 : replayed 3 single (place 0x0004 0x0004) ≡ Balances (minus 1) (pos 0)
+  pub m1 : replayed 6 sequence (place 0x0001 0x0004) ≡ with_balances (pos 0) (pos 0)
+  pub m2 : replayed 6 sequence (place 0x0004 0x0030) ≡ with_balances (minus 1) (minus 1)
+  pub m3 : replayed 6 sequence (place 0x0030 0x0002) ≡ with_balances (pos 0) (pos 1)
+  pub m4 : replayed 6 repeated (place 0x0004 0x0030) ≡ with_balances (minus 1) (pos 1)
+  pub m5 : replayed 6 repeated (place 0x0001 0x0004) ≡ with_balances (minus 1) (minus 1)
+  pub m6 : replayed 3 single (place 0x0004 0x0004) ≡ with_balances (minus 1) (pos 0)
   pub m7 : M7
   pub m8 : RefusedWith 6 0 (checked 6 []) × RefusedWith 2 0 (checked 6 (bytes "\n"))
   pub m9 : RefusedWith 2 0 (checked 6 (bytes "00000001\n")) × RefusedWith 3 0 (checked 2 single)

@@ -1,15 +1,12 @@
 -- Writing a list of places as text. Document 01, "Thinning and writing", the writer.
 -- Assumes nothing.
-use Rattle.std.specs.Prelude.{ℕ, ◌+◌, ◌*◌, ltb, length}
+use Rattle.std.specs.Prelude.{ℕ, ◌+◌, ◌*◌, ltb, length, Option, Result}
 use mathlib.Core.List.{List, [], ◌∷◌, ◌++◌, flat_map}
-use Rattle.std.proofs.Math.Option.{Option}
 use Rattle.foundation.specs.Buffers.{overwrite}
 use Rattle.limits.specs.declared.Refusal.{Refusal}
-use Rattle.limits.specs.Refusals.{number, value, answer}
+use Rattle.limits.specs.Refusals.{answer, answered}
 use Rattle.places.specs.Places.{place_of, words_refusal}
 use Rattle.hex_digits.specs.Digits.{write_hex, line_feed}
-use Rattle.writer.specs.declared.Written.{Written}
-use Rattle.writer.specs.declared.Written.TheVariants.{Bytes, Refused}
 
 -- the digits of a set, and the bytes of a place's line
 abbrev pub set_digits : ℕ
@@ -31,17 +28,8 @@ unfoldable pub writing_refusal : List ℕ → ℕ → Option Refusal
 writing_refusal words room = words_refusal words (ltb room (line_bytes * length words))
 
 -- the call's answer for a buffer of that many bytes: the bytes written
-unfoldable pub written : List ℕ → ℕ → Written
-written words room = answer Refused (writing_refusal words room) (Bytes (length (list_text words)))
-
--- the number of an answer, 0 where the call is not refused, and the value beside it
-unfoldable pub written_number : Written → ℕ
-written_number (Bytes count) = 0
-written_number (Refused r) = number r
-
-unfoldable pub written_value : Written → ℕ
-written_value (Bytes count) = 0
-written_value (Refused r) = value r
+unfoldable pub written : List ℕ → ℕ → Result ℕ Refusal
+written words room = answered (writing_refusal words room) (length (list_text words))
 
 -- what the buffer holds on return: the lines, then its old tail; after a refusal, what it held before
 unfoldable pub written_after : List ℕ → List ℕ → List ℕ

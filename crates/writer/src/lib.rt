@@ -3,13 +3,13 @@
 
 ghost use Rattle.std.specs.Prelude.{◌≡◌, ◌*◌, ◌≤◌, length};
 ghost use Rattle.foundation.specs.Buffers.{overwrite};
-ghost use Rattle.limits.specs.Refusals.{Numbered};
-ghost use Rattle.writer.specs.Writing.{line_bytes, place_line, list_text, writing_refusal, written, written_number, written_value, written_after};
+ghost use Rattle.limits.specs.Refusals.{Numbered, answer_number, answer_value};
+ghost use Rattle.writer.specs.Writing.{line_bytes, place_line, list_text, writing_refusal, written, written_after};
 
 use hex_digits::hex::write_hex;
 use limits::Refusal;
-use places::list::first_invalid;
-use places::place_of;
+use places::Place;
+use places::list::check_words;
 
 // The digits of a set.
 const SET_DIGITS: usize = 4;
@@ -19,19 +19,12 @@ const LINE_DIGITS: usize = 2 * SET_DIGITS;
 
 pub const LINE_BYTES: usize = LINE_DIGITS + 1;
 
-// What writing a list answers: the bytes written, or the refusal.
-#[derive(Drop)]
-pub enum Written {
-    Bytes(usize),
-    Refused(Refusal),
-}
-
 // Writes the line of a place into the bytes of a line.
 fn write_line(word: u32, line: &mut [u8])
     requires { length line.old ≡ line_bytes }
     ensures { line.new ≡ place_line word }
 {
-    let place = place_of(word);
+    let place = Place::from(word);
     write_hex(place.inputs as u64, &mut line[0..SET_DIGITS]);
     write_hex(place.outputs as u64, &mut line[SET_DIGITS..LINE_DIGITS]);
     line[LINE_DIGITS] = b'\n';
@@ -45,12 +38,10 @@ pub fn write_lines(words: &[u32], text: &mut [u8]) -> usize
     ensures text { text.new ≡ overwrite (list_text words.now) text.old }
 {
     let mut count = 0;
-    let mut at = 0;
-    while at < words.len() {
+    for word in words {
         let next = count + LINE_BYTES;
-        write_line(words[at], &mut text[count..next]);
+        write_line(*word, &mut text[count..next]);
         count = next;
-        at += 1;
     }
     count
 }
@@ -58,17 +49,11 @@ pub fn write_lines(words: &[u32], text: &mut [u8]) -> usize
 // Document 01's writer: turns the words of a list into their lines, and answers how many bytes that
 // makes. Bytes behind the lines stay what they were, and a refused call changes nothing. The bytes
 // of a list may be more than a number holds, so the room is divided.
-pub fn write_places(words: &[u32], text: &mut [u8]) -> Written
+pub fn write_places(words: &[u32], text: &mut [u8]) -> Result<usize, Refusal>
     ensures answer { result ≡ written words.now (length text.old) }
     ensures text { text.new ≡ written_after words.now text.old }
-    ensures numbered { Numbered (writing_refusal words.now (length text.old)) (written_number result) (written_value result) }
+    ensures numbered { Numbered (writing_refusal words.now (length text.old)) (answer_number result) (answer_value result) }
 {
-    let invalid = first_invalid(words);
-    if invalid < words.len() {
-        return Written::Refused(Refusal::InvalidPlace { index: invalid });
-    }
-    if text.len() / LINE_BYTES < words.len() {
-        return Written::Refused(Refusal::BufferTooSmall);
-    }
-    Written::Bytes(write_lines(words, text))
+    check_words(words, words.len() <= text.len() / LINE_BYTES)?;
+    Ok(write_lines(words, text))
 }

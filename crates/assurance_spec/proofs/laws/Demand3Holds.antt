@@ -3,11 +3,12 @@
 -- that is about runs; and a completed run found the fitting candidates, whose words the reduction
 -- takes.
 -- Assumes nothing.
+use Rattle.std.specs.Prelude.{None, Result}
 use Prim.Native.Nat.{ℕ}
 use mathlib.Core.Path.{◌≡◌, ◌∙◌}
 use mathlib.Core.List.{List}
-use mathlib.Core.Option.{none}
 use lib.ListN.{length}
+use Rattle.limits.specs.declared.Refusal.{Refusal}
 use Rattle.limits.specs.declared.Settings.{Settings}
 use Rattle.discovery_spec.specs.Discovery.{summary, run_refusal, capacity_of}
 use Rattle.discovery_spec.specs.TwoRuns.{Completes, FoundAll, TwoRuns}
@@ -21,7 +22,7 @@ use Rattle.assurance_spec.specs.Demand3.{Completed, ExactlyFitting, ReducedTo, A
 use Rattle.assurance_spec.proofs.laws.RunSeen.{room_of, at_least, made_run, listed_words, answered, listed_found, listing_complete, kept_reduced}
 use Rattle.assurance_spec.proofs.laws.ListedPlaces.{exactly_fitting, fitting_listable, exactly_irredundant}
 
-module _ (s : Settings) (text : List ℕ) (passes : run_refusal s text ≡ none) where
+module _ (s : Settings) (text : List ℕ) (passes : run_refusal s text ≡ None) where
   -- the reduction of the fitting candidates that a completed run found
   reduced_to : (resources : Resources) → Completed (made_run s text resources) → ExactlyFitting s text (listed_words s text resources)
       → ReducedTo (as_written s text resources) (made_run s text resources)
@@ -78,12 +79,12 @@ demand_3 s text first second run₁ run₂ e₁ e₂ more =
     rw (one.1, two.1) (any_two_runs s text one.0 first second claim)
 
 -- so it holds of calls that go as written
-seen : {s : Settings} {text : List ℕ} {resources : Resources} {answer : Listing} {rejected found kept : List ℕ}
+seen : {s : Settings} {text : List ℕ} {resources : Resources} {answer : Result Listing Refusal} {rejected found kept : List ℕ}
     → GoesAsWritten s text resources answer rejected found kept → observed resources answer found kept ≡ as_written s text resources
 unfolding as_written
 seen goes = rw (goes.answers, goes.leaves_found, goes.leaves_kept)
 
-pub demand_3_seen : {s : Settings} {text : List ℕ} {resources₁ resources₂ : Resources} {answer₁ answer₂ : Listing}
+pub demand_3_seen : {s : Settings} {text : List ℕ} {resources₁ resources₂ : Resources} {answer₁ answer₂ : Result Listing Refusal}
     {rejected₁ rejected₂ found₁ found₂ kept₁ kept₂ : List ℕ}
     → GoesAsWritten s text resources₁ answer₁ rejected₁ found₁ kept₁
     → GoesAsWritten s text resources₂ answer₂ rejected₂ found₂ kept₂

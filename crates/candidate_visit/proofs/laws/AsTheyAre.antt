@@ -1,58 +1,35 @@
--- Where a run has written nothing, its buffers are as they were: they hold the state that they
--- stand for, whether the run goes on or stops there.
+-- Buffers hold the words that they stand for: where a run has written nothing, they are as they
+-- were, and one word more is written after those that are there.
 -- Assumes nothing.
-use Prim.Native.Nat.{ℕ}
-use mathlib.Core.Path.{◌≡◌, sym}
-use mathlib.Core.List.{List}
+use Rattle.std.specs.Borrow.{MutBor}
+use Prim.Native.Nat.{ℕ, ◌+◌, ◌≤◌, ◌<◌}
+use native.Mathlib.Omega.{arith}
+use mathlib.Core.Path.{◌≡◌, refl, sym, ap, ◌∙◌}
+use mathlib.Core.List.{List, [], ◌∷◌, ◌++◌}
+use lib.ListN.{length, take, set, length-append, length-set}
 use lib.Seq.{length-take-le}
-use Rattle.foundation.specs.Buffers.{overwrite}
-use Rattle.foundation.proofs.laws.Buffers.{overwrite_front}
-use Rattle.discovery_spec.specs.declared.Run.{Run}
-use Rattle.discovery_spec.specs.Search.{going, stopped, state_of, end_of}
-use Rattle.discovery_spec.specs.Discovery.{summary}
-use Rattle.candidate_visit.specs.Standing.{state_in, Stands, Leaves}
+use Rattle.foundation.proofs.laws.Buffers.{overwrite_front, overwrite_next}
+use Rattle.candidate_visit.specs.Standing.{Holds}
 
-module _ {r : Run} {rejected found : List ℕ} (stands : Stands r rejected found) where
-  pub rejected_same : rejected ≡ overwrite (state_in r rejected found).rejected rejected
-  unfolding state_in
-  rejected_same = sym (overwrite_front rejected r.rejected stands.rejected_there)
+module _ (buffer : MutBor (List ℕ)) {count : ℕ} (there : count ≤ length buffer.now) where
+  pub how_many : length (take count buffer.now) ≡ count
+  how_many = length-take-le count buffer.now there
 
-  pub found_same : found ≡ overwrite (state_in r rejected found).found found
-  unfolding state_in
-  found_same = sym (overwrite_front found r.found stands.found_there)
-
-  -- a run that stops with an end
-  pub stopped_leaves : (end : ℕ)
-      → Leaves
-      (stopped end (state_in r rejected found))
-      rejected
-      found
-      (record { end = end; found = r.found; rejected = r.rejected; replays = r.replays; visits = r.visits })
-      rejected
-      found
-  unfolding state_in summary end_of state_of
-  stopped_leaves end =
+  pub as_it_is : Holds (take count buffer.now) buffer buffer count
+  as_it_is =
       record {
-        answered =
-            rw (
-              length-take-le r.rejected rejected stands.rejected_there,
-              length-take-le r.found found stands.found_there,
-            );
-        rejected_left = rejected_same;
-        found_left = found_same;
+        count_is = sym how_many;
+        left = sym (overwrite_front buffer.now count there);
+        same_length = refl;
+        same_buffer = refl;
       }
 
-  -- a run that goes on
-  pub stands_leaves : Leaves (going (state_in r rejected found)) rejected found r rejected found
-  unfolding state_in summary end_of state_of
-  stands_leaves =
+  pub word_more : (word : ℕ) → count < length buffer.now → {after : MutBor (List ℕ)} → after.now ≡ set buffer.now count word
+      → after.ghost_name ≡ buffer.ghost_name → Holds (take count buffer.now ++ (word ∷ [])) buffer after (count + 1)
+  word_more word room words same =
       record {
-        answered =
-            rw (
-              length-take-le r.rejected rejected stands.rejected_there,
-              length-take-le r.found found stands.found_there,
-              sym stands.goes_on,
-            );
-        rejected_left = rejected_same;
-        found_left = found_same;
+        count_is = omega (arith, how_many, length-append (take count buffer.now) (word ∷ []));
+        left = words ∙ overwrite_next buffer.now count word room;
+        same_length = ap length words ∙ length-set buffer.now count word;
+        same_buffer = same;
       }

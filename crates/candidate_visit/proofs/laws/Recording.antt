@@ -3,18 +3,17 @@
 -- words, where there is room. The candidate was not ruled before, so it is pruned below exactly if
 -- its own word was stored and rules it overfed.
 -- Assumes nothing.
-use Prim.Native.Nat.{ℕ, ◌+◌, ◌*◌, ◌≤◌, ◌<◌}
+use Rattle.std.specs.Prelude.{Ok, Err}
+use Rattle.std.specs.Borrow.{MutBor}
+use Prim.Native.Nat.{ℕ, ◌+◌, ◌≤◌, ◌<◌}
 use native.Mathlib.Omega.{arith}
-use mathlib.Core.Path.{◌≡◌, refl, sym, ◌∙◌}
+use mathlib.Core.Path.{◌≡◌, refl, sym}
+use mathlib.Core.Logic.{◌⊎◌, inl, inr}
 use mathlib.Core.Bool.{Bool, true, false, cond, ◌||◌}
-use mathlib.Core.List.{List, [], ◌∷◌}
-use lib.Dec.{leb}
-use lib.ListN.{length, take, set, length-append}
-use lib.Seq.{length-take-le}
+use mathlib.Core.List.{List}
+use lib.ListN.{length, take, set}
 use borrow.Author.Tests.{lt-ltb, le-ltb}
 use Rattle.foundation.specs.Lists.{any}
-use Rattle.foundation.specs.Buffers.{overwrite}
-use Rattle.foundation.proofs.laws.Buffers.{overwrite_next}
 use Rattle.places.specs.declared.Place.{Place}
 use Rattle.places.specs.Places.{word}
 use Rattle.places.proofs.laws.Words.{Storable}
@@ -22,15 +21,16 @@ use Rattle.replay_spec.specs.declared.Verdict.{Verdict}
 use Rattle.replay_spec.specs.declared.Verdict.TheVariants.{Fitting, Underfed, Overfed, Both}
 use Rattle.rulings.specs.declared.Ruling.{Ruling}
 use Rattle.rulings.specs.declared.Ruling.TheVariants.{Unruled, AsUnderfed, AsOverfed}
-use Rattle.discovery_spec.specs.declared.Run.{Run}
-use Rattle.replay_spec.specs.Judgement.{mark}
-use Rattle.discovery_spec.specs.Rejected.{mark_unit, rejected_word, rules_underfed, ruled_overfed, ruled}
 use Rattle.rulings.specs.Rulings.{ruling_of}
-use Rattle.discovery_spec.specs.Search.{State, Progress, going, stopped, with_found, with_rejected, with_pruned, proceed, accept, reject, conclude, state_of, end_of}
-use Rattle.discovery_spec.specs.Discovery.{summary, capacity_of}
-use Rattle.candidate_visit.specs.Standing.{state_in, Stands, Leaves, prunes}
+use Rattle.discovery_spec.specs.declared.End.TheVariants.{ListFull}
+use Rattle.discovery_spec.specs.Rejected.{rejected_word, rules_underfed, ruled_overfed, ruled}
+use Rattle.discovery_spec.specs.Search.{Capacity, State, going, with_found, with_rejected, with_pruned, proceed, accept, reject, state_of}
+use Rattle.discovery_spec.specs.Discovery.{capacity_of}
 use Rattle.discovery_spec.proofs.laws.Rulings.{is_overfed, own_overfed, overfed_more}
-use Rattle.candidate_visit.proofs.laws.AsTheyAre.{rejected_same, found_same, stopped_leaves, stands_leaves}
+use Rattle.candidate_visit.specs.declared.Descendants.TheVariants.{Searched, Pruned}
+use Rattle.candidate_visit.specs.declared.RunState.{RunState}
+use Rattle.candidate_visit.specs.Standing.{state_in, room_in, Holds, Turns, prunes}
+use Rattle.candidate_visit.proofs.laws.AsTheyAre.{how_many, as_it_is, word_more}
 
 -- what a ruling says: that a word rules the candidate overfed, and that one rules it at all
 abbrev pub says_overfed : Ruling → Bool
@@ -55,171 +55,148 @@ ruling_says words c r e = rw (sym e) (go (ruled_overfed words c) (any (rules_und
     go false true = (refl, refl)
     go false false = (refl, refl)
 
--- only a fitting candidate has no mark, and a mark of 2 or more is that of an overfed one
-pub unmarked : (v : Verdict) → mark v ≡ 0 → v ≡ Fitting
-unfolding mark
-unmarked Fitting e = refl
-unmarked Underfed e = absurd (omega arith)
-unmarked Overfed e = absurd (omega arith)
-unmarked Both e = absurd (omega arith)
+-- which verdicts are overfed
+pub either_overfed : (v : Verdict) → (v ≡ Overfed) ⊎ (v ≡ Both) → is_overfed v ≡ true
+either_overfed v (inl e) = rw e
+either_overfed v (inr e) = rw e
 
-mark_overfed : (v : Verdict) → leb 2 (mark v) ≡ is_overfed v
-unfolding mark
-mark_overfed Fitting = refl
-mark_overfed Underfed = refl
-mark_overfed Overfed = refl
-mark_overfed Both = refl
+pub not_overfed : (v : Verdict) → (v ≡ Fitting) ⊎ (v ≡ Underfed) → is_overfed v ≡ false
+not_overfed v (inl e) = rw e
+not_overfed v (inr e) = rw e
 
-module _ (c : Place) (budget : ℕ) {run : Run} {rejected found : List ℕ} (stands : Stands run rejected found) (unruled : ruling_of (state_in run rejected found).rejected c ≡ Unruled) where
-  -- the state before the verdict, and the progress after it
+-- a run with one word more found, and with one more rejected
+abbrev pub with_found_word : (w : RunState) (found : MutBor (List ℕ)) → w.rejected_count ≤ length w.rejected.now
+    → w.found_count + 1 ≤ length found.now → RunState
+with_found_word w found a b =
+    record {
+      rejected = w.rejected;
+      found = found;
+      rejected_count = w.rejected_count;
+      found_count = w.found_count + 1;
+      replays = w.replays;
+      visits = w.visits;
+      rejected_there = a;
+      found_there = b;
+    }
+
+abbrev pub with_rejected_word : (w : RunState) (rejected : MutBor (List ℕ)) → w.rejected_count + 1 ≤ length rejected.now
+    → w.found_count ≤ length w.found.now → RunState
+with_rejected_word w rejected a b =
+    record {
+      rejected = rejected;
+      found = w.found;
+      rejected_count = w.rejected_count + 1;
+      found_count = w.found_count;
+      replays = w.replays;
+      visits = w.visits;
+      rejected_there = a;
+      found_there = b;
+    }
+
+module _ (c : Place) (budget : ℕ) (w : RunState) (unruled : ruling_of (state_in w).rejected c ≡ Unruled) where
   abbrev state : State
-  state = state_in run rejected found
+  state = state_in w
 
-  abbrev after : Verdict → Progress
-  after v = conclude (capacity_of rejected found budget) v c state
+  abbrev room : Capacity
+  room = room_in w budget
 
-  accepts : run.found < length found → after Fitting ≡ going (with_found (word c) state)
-  unfolding conclude accept proceed capacity_of state_in with_found
-  accepts room =
-      rw (
-        lt-ltb (length (take run.found found)) (length found) (omega (arith, length-take-le run.found found stands.found_there)),
-        (ruling_says (take run.rejected rejected) c Unruled unruled).0,
+  no_word_yet : ruled_overfed (take w.rejected_count w.rejected.now) c ≡ false
+  unfolding state_in
+  no_word_yet = (ruling_says (take w.rejected_count w.rejected.now) c Unruled unruled).0
+
+  -- the buffers as they are
+  rejected_held : Holds (take w.rejected_count w.rejected.now) w.rejected w.rejected w.rejected_count
+  rejected_held = as_it_is w.rejected w.rejected_there
+
+  found_held : Holds (take w.found_count w.found.now) w.found w.found w.found_count
+  found_held = as_it_is w.found w.found_there
+
+  -- a fitting candidate
+  pub found_stored : w.found_count < length w.found.now → {found : MutBor (List ℕ)} → found.now ≡ set w.found.now w.found_count (word c)
+      → found.ghost_name ≡ w.found.ghost_name → (a : w.rejected_count ≤ length w.rejected.now) (b : w.found_count + 1 ≤ length found.now)
+      → Turns (accept room c state) w (Ok Searched) (with_found_word w found a b)
+  unfolding accept proceed capacity_of state_in with_found state_of prunes
+  found_stored more words same a b =
+      rw (lt-ltb (length (take w.found_count w.found.now)) (length w.found.now) (omega (arith, how_many w.found w.found_there)), no_word_yet) (
+      record {
+        answered = refl;
+        leaves =
+            record {
+              replays = refl;
+              visits = refl;
+              rejected = rejected_held;
+              found = word_more w.found w.found_there (word c) more words same;
+            };
+      }
       )
 
-  pub found_stored : run.found < length found
-      → Leaves
-      (after Fitting)
-      rejected
-      found
-      (record { end = run.end; found = run.found + 1; rejected = run.rejected; replays = run.replays; visits = run.visits })
-      rejected
-      (set found run.found (word c))
-      × (false ≡ prunes (after Fitting))
-  unfolding state_in summary with_found prunes end_of state_of
-  found_stored room =
-      rw (accepts room) (
-        record {
-          answered =
-              rw (
-                stands.goes_on,
-                length-append (take run.found found) (word c ∷ []),
-                length-take-le run.found found stands.found_there,
-                length-take-le run.rejected rejected stands.rejected_there,
-              );
-          rejected_left = rejected_same stands;
-          found_left = overwrite_next found run.found (word c) room;
-        },
-        refl,
+  pub list_full : length w.found.now ≤ w.found_count → Turns (accept room c state) w (Err ListFull) w
+  unfolding accept capacity_of state_in state_of
+  list_full full =
+      rw (le-ltb (length (take w.found_count w.found.now)) (length w.found.now) (omega (arith, how_many w.found w.found_there))) (
+      record {
+        answered = refl;
+        leaves = record { replays = refl; visits = refl; rejected = rejected_held; found = found_held };
+      }
       )
 
-  stops : length found ≤ run.found → after Fitting ≡ stopped 2 state
-  unfolding conclude accept capacity_of state_in
-  stops full =
-      rw (le-ltb (length (take run.found found)) (length found) (omega (arith, length-take-le run.found found stands.found_there)))
-
-  pub list_full : length found ≤ run.found
-      → Leaves
-      (after Fitting)
-      rejected
-      found
-      (record { end = 2; found = run.found; rejected = run.rejected; replays = run.replays; visits = run.visits })
-      rejected
-      found
-      × (false ≡ prunes (after Fitting))
-  unfolding state_in summary prunes end_of state_of
-  list_full full = rw (stops full) (stopped_leaves stands 2, refl)
-
-  -- a candidate that does not fit
-  module _ (v : Verdict) (marked : 0 < mark v) where
-    concluded : after v ≡ reject (capacity_of rejected found budget) v c state
-    unfolding conclude mark
-    concluded = go v marked
-      where
-        go : (v : Verdict) → 0 < mark v → after v ≡ reject (capacity_of rejected found budget) v c state
-        go Fitting h = absurd (omega arith)
-        go Underfed h = refl
-        go Overfed h = refl
-        go Both h = refl
-
-    -- the state with the candidate's word, and with the candidate among the pruned where its word
-    -- prunes
+  -- another candidate
+  module _ (v : Verdict) where
     abbrev stored : State
     stored = with_rejected (rejected_word c v) state
 
-    rejects : Storable c → run.rejected < length rejected → after v ≡ going (cond (is_overfed v) (with_pruned c stored) stored)
-    unfolding reject proceed capacity_of state_in with_rejected
-    rejects storable room =
-        concluded
-        ∙ rw (
-          lt-ltb
-              (length (take run.rejected rejected))
-              (length rejected)
-              (omega (arith, length-take-le run.rejected rejected stands.rejected_there)),
-          overfed_more (take run.rejected rejected) (rejected_word c v) c,
+    pub word_stored : {overfed : Bool} → is_overfed v ≡ overfed → Storable c → w.rejected_count < length w.rejected.now
+        → {rejected : MutBor (List ℕ)} → rejected.now ≡ set w.rejected.now w.rejected_count (rejected_word c v)
+        → rejected.ghost_name ≡ w.rejected.ghost_name
+        → (a : w.rejected_count + 1 ≤ length rejected.now) (b : w.found_count ≤ length w.found.now)
+        → Turns (reject room v c state) w (Ok (cond overfed Pruned Searched)) (with_rejected_word w rejected a b)
+    unfolding reject proceed capacity_of state_in with_rejected with_pruned state_of prunes
+    word_stored {overfed} e storable more {rejected} words same a b =
+        let words_before = take w.rejected_count w.rejected.now in
+        rw (
+          lt-ltb (length words_before) (length w.rejected.now) (omega (arith, how_many w.rejected w.rejected_there)),
+          overfed_more words_before (rejected_word c v) c,
           own_overfed c v storable,
-          (ruling_says (take run.rejected rejected) c Unruled unruled).0,
+          e,
+          no_word_yet,
         )
-
-    drops : length rejected ≤ run.rejected → after v ≡ going state
-    unfolding reject proceed capacity_of state_in
-    drops full =
-        concluded
-        ∙ rw (
-          le-ltb
-              (length (take run.rejected rejected))
-              (length rejected)
-              (omega (arith, length-take-le run.rejected rejected stands.rejected_there)),
-          (ruling_says (take run.rejected rejected) c Unruled unruled).0,
-        )
-
-    pub word_stored : Storable c → run.rejected < length rejected
-        → Leaves
-        (after v)
-        rejected
-        found
-        (record { end = run.end; found = run.found; rejected = run.rejected + 1; replays = run.replays; visits = run.visits })
-        (set rejected run.rejected (word c + mark_unit * mark v))
-        found
-        × (leb 2 (mark v) ≡ prunes (after v))
-    unfolding state_in summary with_rejected with_pruned rejected_word prunes end_of state_of
-    word_stored storable room = rw (rejects storable room, mark_overfed v) (go (is_overfed v))
+        (go overfed)
       where
-        counted : record { end = run.end; found = run.found; rejected = run.rejected + 1; replays = run.replays; visits = run.visits }
-            ≡ summary (going stored)
-        counted =
-            rw (
-              stands.goes_on,
-              length-take-le run.found found stands.found_there,
-              length-append (take run.rejected rejected) (rejected_word c v ∷ []),
-              length-take-le run.rejected rejected stands.rejected_there,
-            )
+        go : (o : Bool)
+            → Turns (going (cond o (with_pruned c stored) stored)) w (Ok (cond o Pruned Searched)) (with_rejected_word w rejected a b)
+        go true =
+            record {
+              answered = refl;
+              leaves =
+                  record {
+                    replays = refl;
+                    visits = refl;
+                    rejected = word_more w.rejected w.rejected_there (rejected_word c v) more words same;
+                    found = found_held;
+                  };
+            }
+        go false =
+            record {
+              answered = refl;
+              leaves =
+                  record {
+                    replays = refl;
+                    visits = refl;
+                    rejected = word_more w.rejected w.rejected_there (rejected_word c v) more words same;
+                    found = found_held;
+                  };
+            }
 
-        kept : set rejected run.rejected (rejected_word c v) ≡ overwrite stored.rejected rejected
-        kept = overwrite_next rejected run.rejected (rejected_word c v) room
-
-        same : found ≡ overwrite stored.found found
-        same = found_same stands
-
-        go : (b : Bool)
-            → Leaves
-            (going (cond b (with_pruned c stored) stored))
-            rejected
-            found
-            (record { end = run.end; found = run.found; rejected = run.rejected + 1; replays = run.replays; visits = run.visits })
-            (set rejected run.rejected (word c + mark_unit * mark v))
-            found
-            × (b ≡ prunes (going (cond b (with_pruned c stored) stored)))
-        go true = (record { answered = counted; rejected_left = kept; found_left = same }, refl)
-        go false = (record { answered = counted; rejected_left = kept; found_left = same }, refl)
-
-    pub word_dropped : length rejected ≤ run.rejected
-        → Leaves
-        (after v)
-        rejected
-        found
-        (record { end = run.end; found = run.found; rejected = run.rejected; replays = run.replays; visits = run.visits })
-        rejected
-        found
-        × (false ≡ prunes (after v))
-    unfolding state_in summary prunes end_of state_of
-    word_dropped full = rw (drops full) (stands_leaves stands, refl)
+    pub word_dropped : length w.rejected.now ≤ w.rejected_count → Turns (reject room v c state) w (Ok Searched) w
+    unfolding reject proceed capacity_of state_in state_of prunes
+    word_dropped full =
+        rw (
+          le-ltb (length (take w.rejected_count w.rejected.now)) (length w.rejected.now) (omega (arith, how_many w.rejected w.rejected_there)),
+          no_word_yet,
+        )
+        (
+        record {
+          answered = refl;
+          leaves = record { replays = refl; visits = refl; rejected = rejected_held; found = found_held };
+        }
+        )

@@ -3,100 +3,124 @@
 -- spent, and else is counted as visited and replayed, which leaves the rest to what follows a
 -- replay.
 -- Assumes nothing.
+use Rattle.std.specs.Prelude.{Result, Ok, Err}
 use Prim.Native.Nat.{ℕ, ◌+◌, ◌≤◌, ◌<◌}
-use mathlib.Core.Path.{◌≡◌, refl, ◌∙◌}
+use mathlib.Core.Path.{◌≡◌, refl, sym, ◌∙◌}
 use mathlib.Core.Bool.{Bool, true, false, cond}
-use mathlib.Core.List.{List}
-use lib.ListN.{take}
-use lib.Seq.{length-take-le}
+use lib.ListN.{length, take}
 use borrow.Author.Tests.{le-leb, lt-leb}
 use Rattle.places.specs.declared.Place.{Place}
 use Rattle.replay_spec.specs.declared.Verdict.{Verdict}
+use Rattle.replay_spec.specs.declared.Verdict.TheVariants.{Fitting, Underfed, Overfed, Both}
 use Rattle.rulings.specs.declared.Ruling.{Ruling}
 use Rattle.rulings.specs.declared.Ruling.TheVariants.{Unruled}
-use Rattle.discovery_spec.specs.declared.Run.{Run}
 use Rattle.rulings.specs.Rulings.{ruling_of}
-use Rattle.discovery_spec.specs.Search.{State, Progress, going, stopped, visited, replayed_once, with_pruned, proceed, conclude, replay, visit, state_of, end_of}
-use Rattle.discovery_spec.specs.Discovery.{summary, capacity_of}
-use Rattle.candidate_visit.specs.Standing.{state_in, Stands, Leaves, prunes}
-use Rattle.candidate_visit.proofs.laws.AsTheyAre.{rejected_same, found_same, stopped_leaves}
+use Rattle.discovery_spec.specs.declared.End.{End}
+use Rattle.discovery_spec.specs.declared.End.TheVariants.{BudgetSpent}
+use Rattle.discovery_spec.specs.Search.{State, Progress, going, visited, replayed_once, with_pruned, proceed, accept, reject, conclude, replay, visit, state_of}
+use Rattle.discovery_spec.specs.Discovery.{capacity_of}
+use Rattle.candidate_visit.specs.declared.Descendants.{Descendants}
+use Rattle.candidate_visit.specs.declared.Descendants.TheVariants.{Searched, Pruned}
+use Rattle.candidate_visit.specs.declared.RunState.{RunState}
+use Rattle.candidate_visit.specs.Standing.{state_in, room_in, Leaves, Turns, prunes}
+use Rattle.candidate_visit.proofs.laws.AsTheyAre.{as_it_is}
 use Rattle.candidate_visit.proofs.laws.Recording.{says_overfed, says_ruled, ruling_says}
 
-module _ (verdict : Place → Verdict) (budget : ℕ) (c : Place) {run : Run} {rejected found : List ℕ} (stands : Stands run rejected found) where
+-- a run with further counts, and the same buffers
+abbrev pub counting : (w : RunState) → ℕ → ℕ → w.rejected_count ≤ length w.rejected.now → w.found_count ≤ length w.found.now → RunState
+counting w replays visits a b =
+    record {
+      rejected = w.rejected;
+      found = w.found;
+      rejected_count = w.rejected_count;
+      found_count = w.found_count;
+      replays = replays;
+      visits = visits;
+      rejected_there = a;
+      found_there = b;
+    }
+
+module _ (w : RunState) (a : w.rejected_count ≤ length w.rejected.now) (b : w.found_count ≤ length w.found.now) where
+  -- what it leaves is left from the run itself
+  pub counted_on : {replays visits : ℕ} {p : Progress} {answer : Result Descendants End} {after : RunState}
+      → Turns p (counting w replays visits a b) answer after → Turns p w answer after
+  counted_on t =
+      let l = t.leaves in
+      record {
+        answered = t.answered;
+        leaves = record { replays = l.replays; visits = l.visits; rejected = l.rejected; found = l.found };
+      }
+
+  -- what counting alone leaves
+  counted : {p : Progress} → (state_of p).rejected ≡ take w.rejected_count w.rejected.now → (state_of p).found ≡ take w.found_count w.found.now
+      → Leaves p w (counting w (state_of p).replays (state_of p).visits a b)
+  counted e f =
+      record {
+        replays = refl;
+        visits = refl;
+        rejected = rw e (as_it_is w.rejected w.rejected_there);
+        found = rw f (as_it_is w.found w.found_there);
+      }
+
+module _ (verdict : Place → Verdict) (budget : ℕ) (c : Place) (w : RunState) where
   abbrev state : State
-  state = state_in run rejected found
-
-  abbrev after : Progress
-  after = visit verdict (capacity_of rejected found budget) c state
-
-  skips : (r : Ruling) → ruling_of state.rejected c ≡ r → says_ruled r ≡ true
-      → after ≡ going (cond (says_overfed r) (with_pruned c (visited state)) (visited state))
-  unfolding visit proceed state_in visited
-  skips r e ruled =
-      let says = ruling_says (take run.rejected rejected) c r e in
-      rw (says.1 ∙ ruled, says.0)
+  state = state_in w
 
   -- a word rules the candidate
   pub skipped : (r : Ruling) → ruling_of state.rejected c ≡ r → says_ruled r ≡ true
-      → Leaves
-      after
-      rejected
-      found
-      (record { end = run.end; found = run.found; rejected = run.rejected; replays = run.replays; visits = run.visits + 1 })
-      rejected
-      found
-      × (says_overfed r ≡ prunes after)
-  unfolding state_in summary visited with_pruned prunes end_of state_of
-  skipped r e ruled = rw (skips r e ruled) (go (says_overfed r))
+      → (a : w.rejected_count ≤ length w.rejected.now) (b : w.found_count ≤ length w.found.now)
+      → Turns (visit verdict (room_in w budget) c state) w (Ok (cond (says_overfed r) Pruned Searched)) (counting w w.replays (w.visits + 1) a b)
+  unfolding visit proceed state_in visited with_pruned prunes state_of
+  skipped r e ruled a b =
+      let says = ruling_says (take w.rejected_count w.rejected.now) c r e in
+      rw (says.1 ∙ ruled, says.0) (go (says_overfed r))
     where
-      counted : record { end = run.end; found = run.found; rejected = run.rejected; replays = run.replays; visits = run.visits + 1 }
-          ≡ summary (going (visited state))
-      counted =
-          rw (
-            stands.goes_on,
-            length-take-le run.found found stands.found_there,
-            length-take-le run.rejected rejected stands.rejected_there,
-          )
+      go : (o : Bool)
+          → Turns (going (cond o (with_pruned c (visited state)) (visited state))) w (Ok (cond o Pruned Searched))
+          (counting w w.replays (w.visits + 1) a b)
+      go true = record { answered = refl; leaves = counted w _ _ refl refl }
+      go false = record { answered = refl; leaves = counted w _ _ refl refl }
 
-      go : (b : Bool)
-          → let p = going (cond b (with_pruned c (visited state)) (visited state)) in
-          Leaves
-          p
-          rejected
-          found
-          (record { end = run.end; found = run.found; rejected = run.rejected; replays = run.replays; visits = run.visits + 1 })
-          rejected
-          found
-          × (b ≡ prunes p)
-      go true = (record { answered = counted; rejected_left = rejected_same stands; found_left = found_same stands }, refl)
-      go false = (record { answered = counted; rejected_left = rejected_same stands; found_left = found_same stands }, refl)
+  -- none does
+  pub not_skipped : ruling_of state.rejected c ≡ Unruled → visit verdict (room_in w budget) c state ≡ replay verdict (room_in w budget) c state
+  unfolding visit state_in
+  not_skipped unruled = rw ((ruling_says (take w.rejected_count w.rejected.now) c Unruled unruled).1)
 
-  module _ (unruled : ruling_of state.rejected c ≡ Unruled) where
-    stops : budget ≤ run.replays → after ≡ stopped 1 state
-    unfolding visit replay state_in capacity_of
-    stops spent = rw ((ruling_says (take run.rejected rejected) c Unruled unruled).1, le-leb budget run.replays spent)
+  -- the budget is spent
+  pub budget_spent : budget ≤ w.replays → Turns (replay verdict (room_in w budget) c state) w (Err BudgetSpent) w
+  unfolding replay state_in capacity_of state_of
+  budget_spent spent =
+      rw (le-leb budget w.replays spent) (
+      record {
+        answered = refl;
+        leaves = counted w _ _ refl refl;
+      }
+      )
 
-    -- the budget is spent
-    pub budget_spent : budget ≤ run.replays
-        → Leaves
-        after
-        rejected
-        found
-        (record { end = 1; found = run.found; rejected = run.rejected; replays = run.replays; visits = run.visits })
-        rejected
-        found
-        × (false ≡ prunes after)
-    unfolding state_in summary prunes end_of state_of
-    budget_spent spent = rw (stops spent) (stopped_leaves stands 1, refl)
+  -- the candidate is replayed
+  module _
+      (left : w.replays < budget)
+      (a : w.rejected_count ≤ length w.rejected.now)
+      (b : w.found_count ≤ length w.found.now)
+    where
+      abbrev tried : RunState
+      tried = counting w (w.replays + 1) (w.visits + 1) a b
 
-    -- the candidate is replayed
-    pub replays_it : run.replays < budget
-        → after
-        ≡ conclude (capacity_of rejected found budget) (verdict c) c (
-        state_in
-        (record { end = run.end; found = run.found; rejected = run.rejected; replays = run.replays + 1; visits = run.visits + 1 })
-        rejected
-        found
-        )
-    unfolding visit replay state_in capacity_of visited replayed_once
-    replays_it left = rw ((ruling_says (take run.rejected rejected) c Unruled unruled).1, lt-leb budget run.replays left)
+      pub replayed_fitting : Fitting ≡ verdict c → {answer : Result Descendants End} {after : RunState}
+          → Turns (accept (room_in tried budget) c (state_in tried)) tried answer after
+          → Turns (replay verdict (room_in w budget) c state) w answer after
+      unfolding replay conclude state_in capacity_of visited replayed_once
+      replayed_fitting e turn = rw (lt-leb budget w.replays left, sym e) (counted_on w a b turn)
+
+      pub replayed_other : (v : Verdict) → (v ≡ Fitting → ⊥) → v ≡ verdict c → {answer : Result Descendants End} {after : RunState}
+          → Turns (reject (room_in tried budget) v c (state_in tried)) tried answer after
+          → Turns (replay verdict (room_in w budget) c state) w answer after
+      unfolding replay conclude state_in capacity_of visited replayed_once
+      replayed_other v other e turn = rw (lt-leb budget w.replays left, sym e, go v other) (counted_on w a b turn)
+        where
+          go : (v : Verdict) → (v ≡ Fitting → ⊥)
+              → conclude (room_in w budget) v c (state_in tried) ≡ reject (room_in tried budget) v c (state_in tried)
+          go Fitting other = absurd (other refl)
+          go Underfed other = refl
+          go Overfed other = refl
+          go Both other = refl

@@ -1,7 +1,7 @@
 -- The activities of a word, counted one after the other: an activity that is counted is taken from
 -- the rest, which keeps its other activities, so each is counted once.
 -- Assumes nothing.
-use Prim.Native.Nat.{ℕ, zero, suc, ◌+◌, ◌-◌, ◌*◌, ◌/◌, ◌%◌, ◌^◌, ◌≤◌, ◌<◌}
+use Prim.Native.Nat.{ℕ, zero, suc, ◌+◌, ◌-◌, ◌*◌, ◌/◌, ◌%◌, ◌^◌, ◌<◌}
 use native.Mathlib.Omega.{arith}
 use native.Mathlib.Nat.{zero-div, one-mul, pow-suc}
 use mathlib.Core.Path.{◌≡◌, refl, sym, ap, subst, ◌∙◌}
@@ -9,13 +9,12 @@ use mathlib.Core.List.{List}
 use borrow.Author.Tests.{eqb-true, eqb-false}
 use lib.Dec.{eqb}
 use lib.ListN.{length, get_or, set, length-set}
-use lib.Pow.{pow_pos, shl_exact, shl-shr}
+use lib.Pow.{shl_exact, shl-shr}
 use lib.Seq.{get_or-set_same, get_or-set_other}
 use Rattle.foundation.proofs.laws.Booleans.{by_test}
 use Rattle.places.specs.Sets.{has}
 use Rattle.places.proofs.laws.SetBits.{has_half}
-use Rattle.reduction_spec.proofs.laws.Parts.{Part, part_le, part_has, bits_part}
-use Rattle.cover_choice.specs.Choosing.{Growable, Grown}
+use Rattle.reduction_spec.proofs.laws.Parts.{Part, part_has, bits_part}
 
 -- one activity alone
 own_bit : (a : ℕ) → has (2 ^ a) a ≡ 1
@@ -45,25 +44,13 @@ module _ (rest a : ℕ) (there : has rest a ≡ 1) where
       (λ e. let same = eqb-true b a e in omega (arith, own_bit a, ap (has (2 ^ a)) same, ap (has rest) same))
       (λ e. omega (arith, other_bit a b (eqb-false b a e)))
 
-  pub bit_le : 2 ^ a ≤ rest
-  bit_le = part_le (2 ^ a) rest bit_part
-
-  pub bit_less : rest - 2 ^ a < rest
-  bit_less = omega (arith, bit_le, pow_pos a)
-
 -- the counts before, and those after the activities of the word that are not in the rest
 pub record CountedBut (word : ℕ) (before : List ℕ) (rest : ℕ) (counts : List ℕ) : Type 0 where
   pub wide : length counts ≡ 32
   pub so_far : (a : ℕ) → a < 32 → get_or counts a 0 + has rest a ≡ get_or before a 0 + has word a
 
 module _ {word : ℕ} {before : List ℕ} where
-  pub none_counted : length before ≡ 32 → CountedBut word before word before
-  none_counted wide = record { wide = wide; so_far = λ a l. refl }
-
   module _ {rest : ℕ} {counts : List ℕ} (c : CountedBut word before rest counts) (a : ℕ) (small : a < 32) (there : has rest a ≡ 1) where
-    pub has_room : Growable before → get_or counts a 0 + 1 < 2 ^ 64
-    has_room room = omega (arith, c.so_far a small, room.small a small)
-
     pub count_bit : CountedBut word before (rest - 2 ^ a) (set counts a (get_or counts a 0 + 1))
     count_bit = record { wide = length-set counts a _ ∙ c.wide; so_far = counted }
       where
@@ -94,10 +81,3 @@ module _ {word : ℕ} {before : List ℕ} where
               part_has (2 ^ a) rest b (bit_part rest a there),
               other_bit a b differ,
             ))
-
-  pub word_counted : {rest : ℕ} {counts : List ℕ} → CountedBut word before rest counts → rest ≡ 0 → Grown word before counts
-  word_counted c none =
-      record {
-        wide = c.wide;
-        counted = λ a l. omega (arith, c.so_far a l, ap (λ (s : ℕ). has s a) none, zero-div (2 ^ a));
-      }

@@ -4,7 +4,7 @@
 -- exactly one choice, and no activity that is left has fewer. Likewise with two. Where the tally
 -- does not tell, the choices of every activity are counted.
 -- Assumes nothing.
-use Prim.Native.Nat.{ℕ, ◌+◌, ◌-◌, ◌^◌, ◌≤◌, ◌<◌, min}
+use Prim.Native.Nat.{ℕ, ◌-◌, ◌^◌, ◌≤◌, ◌<◌, min}
 use native.Mathlib.Omega.{arith}
 use native.Mathlib.Nat.{le_antisymm}
 use mathlib.Core.Path.{◌≡◌, refl, ap}
@@ -120,56 +120,16 @@ pub record Sought (words : List ℕ) (whole left rarest fewest next : ℕ) : Typ
   pub counted : fewest ≡ choices words whole left rarest
   pub so_far : (b : ℕ) → b < next → has left b ≡ 1 → fewest ≤ choices words whole left b
 
--- an index below the next one is below this one, or is this one
-up_to : {X : Type 0} (b next : ℕ) → b < next + 1 → (b < next → X) → (b ≡ next → X) → X
-up_to b next l before here =
-    by_test (ltb b next) (λ e. before (ltb-true b next e)) (λ e. here (omega (arith, ltb-false b next e)))
-
-module _ {words : List ℕ} {whole left : ℕ} where
-  pub none_sought : (a : ℕ) → a < 32 → has left a ≡ 1 → (count : ℕ) → count ≡ choices words whole left a → Sought words whole left a count 0
-  none_sought a small h count e = record { known = small; uncovered = h; counted = e; so_far = λ b l. absurd (omega arith) }
-
-  module _ {rarest fewest next : ℕ} (s : Sought words whole left rarest fewest next) where
-    -- the next activity is not left
-    pub not_left : has left next ≡ 0 → Sought words whole left rarest fewest (next + 1)
-    not_left e =
-        record {
-          known = s.known;
-          uncovered = s.uncovered;
-          counted = s.counted;
-          so_far = λ b l h. up_to b next l (λ before. s.so_far b before h) (λ here. absurd (omega (arith, ap (has left) here)));
-        }
-
-    -- it is left and has no fewer choices
-    pub no_fewer : (count : ℕ) → count ≡ choices words whole left next → fewest ≤ count → Sought words whole left rarest fewest (next + 1)
-    no_fewer count e no_less =
-        record {
-          known = s.known;
-          uncovered = s.uncovered;
-          counted = s.counted;
-          so_far = λ b l h. up_to b next l (λ before. s.so_far b before h) (λ here. omega (arith, e, ap (choices words whole left) here));
-        }
-
-    -- it is left and has fewer
-    pub one_fewer : next < 32 → has left next ≡ 1 → (count : ℕ) → count ≡ choices words whole left next → count < fewest
-        → Sought words whole left next count (next + 1)
-    one_fewer small there count e less =
-        record {
-          known = small;
-          uncovered = there;
-          counted = e;
-          so_far = λ b l h. up_to b next l (λ before. omega (arith, s.so_far b before h)) (λ here. omega (arith, e, ap (choices words whole left) here));
-        }
-
-    -- all activities were looked at
-    pub all_sought : left < 2 ^ 32 → 32 ≤ next → Fewest words whole left rarest
-    all_sought small end =
-        record {
-          known = s.known;
-          uncovered = s.uncovered;
-          fewest = λ b h.
-              by_test
-              (ltb b next)
-              (λ e. omega (arith, s.counted, s.so_far b (ltb-true b next e) h))
-              (λ e. absurd (omega (arith, no_bit left 32 b small (omega (arith, ltb-false b next e)))));
-        }
+-- at the end all activities were looked at, since none is beyond 32 bits
+pub all_sought : {words : List ℕ} {whole left rarest fewest next : ℕ} → Sought words whole left rarest fewest next
+    → left < 2 ^ 32 → 32 ≤ next → Fewest words whole left rarest
+all_sought {left} {next} s small end =
+    record {
+      known = s.known;
+      uncovered = s.uncovered;
+      fewest = λ b h.
+          by_test
+          (ltb b next)
+          (λ e. omega (arith, s.counted, s.so_far b (ltb-true b next e) h))
+          (λ e. absurd (omega (arith, no_bit left 32 b small (omega (arith, ltb-false b next e)))));
+    }

@@ -2,13 +2,14 @@
 -- that can be the next part adds one to the choices of each of its activities, so an activity that
 -- it has moves from those that n words can cover to those that n + 1 can.
 -- Assumes nothing.
-use Prim.Native.Nat.{ℕ, zero, suc, ◌+◌, ◌-◌, ◌^◌, ◌≤◌, min, max}
+use Prim.Native.Nat.{ℕ, zero, suc, ◌+◌, ◌-◌, ◌^◌, ◌≤◌, ◌<◌, min, max}
 use native.Mathlib.Omega.{arith}
 use native.Mathlib.Nat.{zero-div}
 use mathlib.Core.Path.{◌≡◌}
 use mathlib.Core.Bool.{true, false}
-use mathlib.Core.List.{List, [], ◌∷◌, ◌++◌}
+use mathlib.Core.List.{List, []}
 use lib.Bits.{bit_and, bit_or}
+use lib.ListN.{length, get_or, take}
 use Rattle.places.specs.Sets.{has}
 use Rattle.places.proofs.laws.SetBits.{has_and, has_or}
 use Rattle.reduction_spec.specs.Cover.{usable, choices}
@@ -56,25 +57,31 @@ module _ (whole left : ℕ) where
         thrice = λ a. omega (arith, zero-div (2 ^ a));
       }
 
-  module _ (words : List ℕ) (w : ℕ) where
+  module _ (words : List ℕ) (at : ℕ) (l : at < length words) where
+    abbrev w : ℕ
+    w = get_or words at 0
+
     -- a word that cannot be the next part
-    pub tally_same : {t : Tally} → usable whole left w ≡ false → Tallied words whole left t → Tallied (words ++ (w ∷ [])) whole left t
+    pub tally_same : {t : Tally} → usable whole left w ≡ false → Tallied (take at words) whole left t → Tallied (take (at + 1) words) whole left t
     tally_same e h =
         record {
-          once = λ a. omega (arith, h.once a, choices_same whole left words w e a);
-          twice = λ a. omega (arith, h.twice a, choices_same whole left words w e a);
-          thrice = λ a. omega (arith, h.thrice a, choices_same whole left words w e a);
+          once = λ a. omega (arith, h.once a, choices_same whole left words at l e a);
+          twice = λ a. omega (arith, h.twice a, choices_same whole left words at l e a);
+          thrice = λ a. omega (arith, h.thrice a, choices_same whole left words at l e a);
         }
 
     -- a word that can
-    pub tally_more : (once twice thrice : ℕ) → usable whole left w ≡ true → Tallied words whole left (tally once twice thrice)
-        → Tallied (words ++ (w ∷ [])) whole left (tally (bit_or once w) (bit_or twice (bit_and once w)) (bit_or thrice (bit_and twice w)))
+    pub tally_more : (once twice thrice : ℕ) → usable whole left w ≡ true → Tallied (take at words) whole left (tally once twice thrice)
+        → Tallied (take (at + 1) words) whole left (tally (bit_or once w) (bit_or twice (bit_and once w)) (bit_or thrice (bit_and twice w)))
     tally_more once twice thrice e h =
         record {
-          once = λ a. rw (choices_one whole left words w e a, has_or once w a, h.once a) (omega (arith, few a));
-          twice = λ a. rw (choices_one whole left words w e a, has_or twice (bit_and once w) a, has_and once w a, h.once a, h.twice a) (in_two _ _ (few a));
-          thrice = λ a. rw (choices_one whole left words w e a, has_or thrice (bit_and twice w) a, has_and twice w a, h.twice a, h.thrice a) (in_three _ _ (few a));
+          once = λ a. rw (choices_one whole left words at l e a, has_or once w a, h.once a) (omega (arith, few a));
+          twice = λ a. rw (choices_one whole left words at l e a, has_or twice (bit_and once w) a, has_and once w a, h.once a, h.twice a) (in_two _ _ (few a));
+          thrice = λ a. rw (choices_one whole left words at l e a, has_or thrice (bit_and twice w) a, has_and twice w a, h.twice a, h.thrice a) (in_three _ _ (few a));
         }
       where
         few : (a : ℕ) → has w a ≤ 1
         few a = omega arith
+
+-- what a loop over the words needs
+pub ruleset tallying = (tally_none, tally_same, tally_more)

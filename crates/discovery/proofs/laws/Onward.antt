@@ -3,47 +3,75 @@
 -- start. It holds at the start. A function that takes the front of what is to come, and leaves what
 -- its progress says, leads to the rest, or, where it stopped, to the end of the whole run.
 -- Assumes nothing.
+use Rattle.std.specs.Prelude.{Result, Ok, Err}
+use Rattle.std.specs.Borrow.{MutBor}
 use Prim.Native.Nat.{ℕ, ◌+◌, ◌≤◌}
 use native.Mathlib.Omega.{arith}
 use native.Mathlib.Nat.{le_refl}
 use mathlib.Core.Path.{◌≡◌, refl, sym, ap, ◌∙◌}
 use mathlib.Core.List.{List, [], ◌∷◌, ◌++◌}
-use lib.ListN.{length, length-append}
-use lib.Seq.{length-take-le}
+use lib.ListN.{length, take, length-append}
 use Rattle.foundation.specs.Lists.{Each, foldl}
 use Rattle.foundation.specs.Buffers.{overwrite}
-use Rattle.foundation.proofs.laws.Buffers.{take_overwritten, overwrite_again, overwrite_room}
+use Rattle.foundation.proofs.laws.Buffers.{take_overwritten, overwrite_again}
 use Rattle.places.specs.declared.Place.{Place}
 use Rattle.replay_spec.specs.declared.Verdict.{Verdict}
-use Rattle.discovery_spec.specs.declared.Run.{Run}
-use Rattle.discovery_spec.specs.Search.{Capacity, State, Progress, going, stopped, step, state_of, end_of}
-use Rattle.discovery_spec.specs.Discovery.{summary, capacity_of}
-use Rattle.candidate_visit.specs.Standing.{state_in, Stands, Leaves}
-use Rattle.discovery_spec.proofs.laws.RunSteps.{EndGiven, Grown, run_grown, run_visits, run_end_given}
-use Rattle.candidate_visit.proofs.laws.AsTheyAre.{stands_leaves}
+use Rattle.discovery_spec.specs.declared.End.{End}
+use Rattle.discovery_spec.specs.Search.{Capacity, State, Progress, going, stopped, step, state_of}
+use Rattle.discovery_spec.specs.Discovery.{capacity_of}
+use Rattle.discovery_spec.proofs.laws.RunSteps.{Grown, run_grown, run_visits}
+use Rattle.candidate_visit.specs.declared.RunState.{RunState}
+use Rattle.candidate_visit.specs.Standing.{state_in, room_in, ended, Holds, Leaves}
+use Rattle.candidate_visit.proofs.laws.AsTheyAre.{how_many, as_it_is}
+use Rattle.discovery.specs.Searching.{outcome, Carries}
 use Rattle.discovery.proofs.laws.PrunedAside.{NotBelow, pruning, pruning_below, run_aside}
 
--- two runs that answer the same and have the same words
+-- two runs that answer the same, count the same and have the same words
 pub record Alike (p q : Progress) : Type 0 where
-  pub answers : summary p ≡ summary q
+  pub answers : outcome p ≡ outcome q
+  pub replays : (state_of p).replays ≡ (state_of q).replays
+  pub visits : (state_of p).visits ≡ (state_of q).visits
   pub rejected : (state_of p).rejected ≡ (state_of q).rejected
   pub found : (state_of p).found ≡ (state_of q).found
 
 alike_same : {p q : Progress} → p ≡ q → Alike p q
-alike_same e = rw e (record { answers = refl; rejected = refl; found = refl })
+alike_same e = rw e (record { answers = refl; replays = refl; visits = refl; rejected = refl; found = refl })
 
 alike_trans : {p q r : Progress} → Alike p q → Alike q r → Alike p r
 alike_trans a b =
-    record { answers = a.answers ∙ b.answers; rejected = a.rejected ∙ b.rejected; found = a.found ∙ b.found }
+    record {
+      answers = a.answers ∙ b.answers;
+      replays = a.replays ∙ b.replays;
+      visits = a.visits ∙ b.visits;
+      rejected = a.rejected ∙ b.rejected;
+      found = a.found ∙ b.found;
+    }
 
 -- what was pruned is no part of it
 aside_alike : (ps : List Place) (p : Progress) → Alike p (pruning_below ps p)
-unfolding summary end_of state_of
-aside_alike ps (going s) = record { answers = refl; rejected = refl; found = refl }
-aside_alike ps (stopped end s) = record { answers = refl; rejected = refl; found = refl }
+unfolding state_of
+aside_alike ps (going s) = record { answers = refl; replays = refl; visits = refl; rejected = refl; found = refl }
+aside_alike ps (stopped end s) = record { answers = refl; replays = refl; visits = refl; rejected = refl; found = refl }
+
+-- progress that goes on, by its answer, or that has stopped with an end
+pub record GoesOn (p : Progress) : Type 0 where
+  pub state : State
+  pub on : p ≡ going state
+
+pub record HasStopped (p : Progress) (end : End) : Type 0 where
+  pub state : State
+  pub off : p ≡ stopped end state
+
+pub goes_on : {X : Type 0} (x : X) {answer : X} (p : Progress) → Ok answer ≡ ended x p → GoesOn p
+goes_on x (going s) e = record { state = s; on = refl }
+goes_on x (stopped end s) e = cc
+
+pub has_stopped : {X : Type 0} (x : X) (p : Progress) {end : End} → Err end ≡ ended x p → HasStopped p end
+has_stopped x (going s) e = cc
+has_stopped x (stopped end s) e = record { state = s; off = cc }
 
 module _ (verdict : Place → Verdict) (room : Capacity) where
-  run_stopped : (end : ℕ) (s : State) (cs : List Place) → foldl (step verdict room) (stopped end s) cs ≡ stopped end s
+  run_stopped : (end : End) (s : State) (cs : List Place) → foldl (step verdict room) (stopped end s) cs ≡ stopped end s
   unfolding step
   run_stopped end s [] = refl
   run_stopped end s (c ∷ cs) = run_stopped end s cs
@@ -53,198 +81,198 @@ module _ (verdict : Place → Verdict) (room : Capacity) where
   run_append p [] rest = refl
   run_append p (c ∷ front) rest = run_append (step verdict room p c) front rest
 
+-- the words that a buffer holds are those that were written
+words_held : {words : List ℕ} {before after : MutBor (List ℕ)} {count : ℕ} → Holds words before after count → take count after.now ≡ words
+words_held {words} {before} h = rw (h.count_is, h.left) (take_overwritten before.now words)
+
 -- a part of a run that left its words in the buffers
-module _ {rejected found rejected_after found_after : List ℕ} {r : Run} where
+module _ {before after : RunState} where
   -- the state in the buffers is that of the progress, but for what was pruned
-  state_back : (s : State) → Leaves (going s) rejected found r rejected_after found_after
-      → s ≡ pruning s.pruned (state_in r rejected_after found_after)
-  unfolding state_in summary state_of
-  state_back s left =
-      rw (
-        left.answered,
-        left.rejected_left,
-        left.found_left,
-        take_overwritten rejected s.rejected,
-        take_overwritten found s.found,
-      )
+  state_back : (s : State) → Leaves (going s) before after → s ≡ pruning s.pruned (state_in after)
+  unfolding state_in state_of
+  state_back s left = rw (left.replays, left.visits, words_held left.rejected, words_held left.found)
 
-  module _ (verdict : Place → Verdict) (room : Capacity) where
-    resumed : (p : Progress) → EndGiven p → Leaves p rejected found r rejected_after found_after → r.end ≡ 0 → {rest : List Place}
-        → Each (NotBelow (state_of p).pruned) rest
-        → Alike (foldl (step verdict room) (going (state_in r rejected_after found_after)) rest) (foldl (step verdict room) p rest)
-    unfolding state_of summary end_of
-    resumed (stopped end s) given left on clear = absurd (omega (arith, given, ap (λ (x : Run). x.end) left.answered))
-    resumed (going s) given left on {rest} clear =
-        let back = state_back s left in
-        let again : Progress = going (state_in r rejected_after found_after) in
-        alike_trans
-        (aside_alike s.pruned (foldl (step verdict room) again rest))
-        (alike_same (sym (ap (λ (t : State). foldl (step verdict room) (going t) rest) back ∙ run_aside s.pruned verdict room again clear)))
+  -- so what comes after it can be made from the buffers
+  resumed : (verdict : Place → Verdict) (room : Capacity) (s : State) → Leaves (going s) before after → {rest : List Place}
+      → Each (NotBelow s.pruned) rest
+      → Alike (foldl (step verdict room) (going (state_in after)) rest) (foldl (step verdict room) (going s) rest)
+  resumed verdict room s left {rest} clear =
+      let back = state_back s left in
+      let again : Progress = going (state_in after) in
+      alike_trans
+      (aside_alike s.pruned (foldl (step verdict room) again rest))
+      (alike_same (sym (ap (λ (t : State). foldl (step verdict room) (going t) rest) back ∙ run_aside s.pruned verdict room again clear)))
 
-    ended : (p : Progress) → Leaves p rejected found r rejected_after found_after → (r.end ≡ 0 → ⊥) → (rest : List Place)
-        → foldl (step verdict room) p rest ≡ p
-    unfolding summary end_of
-    ended (stopped end s) left off rest = run_stopped verdict room end s rest
-    ended (going s) left off rest = absurd (off (ap (λ (x : Run). x.end) left.answered))
+-- a buffer with so many words that is as long as it was at the start, and of which the tail beyond its
+-- words is as it was
+pub record Onward (start now : MutBor (List ℕ)) (count : ℕ) : Type 0 where
+  pub same_length : length now.now ≡ length start.now
+  pub tail : (words : List ℕ) → count ≤ length words → overwrite words now.now ≡ overwrite words start.now
+  pub same_buffer : now.ghost_name ≡ start.ghost_name
 
--- buffers that are as long as others give the same room
-same_room : (rejected found rejected' found' : List ℕ) (budget : ℕ) → length rejected' ≡ length rejected → length found' ≡ length found
-    → capacity_of rejected' found' budget ≡ capacity_of rejected found budget
-unfolding capacity_of
-same_room rejected found rejected' found' budget e f = rw (e, f)
+onward_start : (buffer : MutBor (List ℕ)) (count : ℕ) → Onward buffer buffer count
+onward_start buffer count = record { same_length = refl; tail = λ words l. refl; same_buffer = refl }
 
--- what was left in buffers that keep their lengths stands there, if the run goes on
-leaves_stands : (p : Progress) {r : Run} {rejected found rejected' found' : List ℕ} → Leaves p rejected found r rejected' found' → r.end ≡ 0
-    → length rejected' ≡ length rejected → length found' ≡ length found → Stands r rejected' found'
-unfolding summary
-leaves_stands p {rejected = rejected} {found = found} left on kept kept' =
-    record {
-      goes_on = on;
-      rejected_there = rw (left.answered, kept) (overwrite_room rejected (state_of p).rejected (ap length (sym left.rejected_left) ∙ kept));
-      found_there = rw (left.answered, kept') (overwrite_room found (state_of p).found (ap length (sym left.found_left) ∙ kept'));
-    }
+-- with more words
+module _
+    {start now after : MutBor (List ℕ)}
+    {count more : ℕ}
+    {words : List ℕ}
+    (at : Onward start now count)
+    (grown : count ≤ length words)
+    (h : Holds words now after more)
+  where
+    onward_more : Onward start after more
+    onward_more =
+        record {
+          same_length = h.same_length ∙ at.same_length;
+          tail =
+              λ further l.
+              rw h.left (overwrite_again now.now words further (omega (arith, h.count_is)) ∙ at.tail further (omega (arith, h.count_is)));
+          same_buffer = h.same_buffer ∙ at.same_buffer;
+        }
 
--- the tail of a buffer that was written over from its front, and then over again with no fewer words
-tail_onward : (written : List ℕ) {buffer₀ buffer buffer' : List ℕ} {n n' : ℕ}
-    → ((words : List ℕ) → n ≤ length words → overwrite words buffer ≡ overwrite words buffer₀) → buffer' ≡ overwrite written buffer
-    → n ≤ length written → n' ≡ length written → (words : List ℕ) → n' ≤ length words → overwrite words buffer' ≡ overwrite words buffer₀
-tail_onward written {buffer = buffer} tail e grown count words l =
-    rw e (overwrite_again buffer written words (omega arith) ∙ tail words (omega arith))
+    -- what the whole run holds, where its words are these
+    held_whole : {all : List ℕ} → words ≡ all → Holds all start after more
+    held_whole e =
+        rw (sym e) (
+        record {
+          count_is = h.count_is;
+          left = h.left ∙ at.tail words grown;
+          same_length = h.same_length ∙ at.same_length;
+          same_buffer = h.same_buffer ∙ at.same_buffer;
+        }
+        )
 
 -- a run at its start: the verdicts and the budget, the candidates, and the counts and the two buffers
 pub record Beginning : Type 0 where
   pub verdict : Place → Verdict
   pub budget : ℕ
   pub candidates : List Place
-  pub run : Run
-  pub rejected : List ℕ
-  pub found : List ℕ
+  pub run : RunState
 
 -- the run over some candidates, from counts and buffers on
-abbrev pub over : Beginning → List Place → Run → List ℕ → List ℕ → Progress
-over b cs r rejected found = foldl (step b.verdict (capacity_of rejected found b.budget)) (going (state_in r rejected found)) cs
+abbrev pub over : Beginning → List Place → RunState → Progress
+over b cs w = foldl (step b.verdict (room_in w b.budget)) (going (state_in w)) cs
 
 -- the whole run
 abbrev pub whole : Beginning → Progress
-whole b = over b b.candidates b.run b.rejected b.found
+whole b = over b b.candidates b.run
 
 -- what a function owes that made the whole run
-abbrev pub Done : Beginning → Run → List ℕ → List ℕ → Type 0
-Done b = Leaves (whole b) b.rejected b.found
+abbrev pub Done : Beginning → Result (Unit {0}) End → RunState → Type 0
+Done b = Carries (whole b) b.run
 
 -- what is to come ends as the whole run
-pub record Reached (b : Beginning) (rest : List Place) (r : Run) (rejected found : List ℕ) : Type 0 where
-  pub stands : Stands r rejected found
-  pub rejected_length : length rejected ≡ length b.rejected
-  pub found_length : length found ≡ length b.found
-  pub rejected_tail : (words : List ℕ) → r.rejected ≤ length words → overwrite words rejected ≡ overwrite words b.rejected
-  pub found_tail : (words : List ℕ) → r.found ≤ length words → overwrite words found ≡ overwrite words b.found
-  pub alike : Alike (over b rest r rejected found) (whole b)
+pub record Reached (b : Beginning) (rest : List Place) (w : RunState) : Type 0 where
+  pub rejected : Onward b.run.rejected w.rejected w.rejected_count
+  pub found : Onward b.run.found w.found w.found_count
+  pub alike : Alike (over b rest w) (whole b)
 
-pub reached_start : (b : Beginning) → Stands b.run b.rejected b.found → Reached b b.candidates b.run b.rejected b.found
-reached_start b stands =
+pub reached_start : (b : Beginning) → Reached b b.candidates b.run
+reached_start b =
     record {
-      stands = stands;
-      rejected_length = refl;
-      found_length = refl;
-      rejected_tail = λ words l. refl;
-      found_tail = λ words l. refl;
+      rejected = onward_start b.run.rejected b.run.rejected_count;
+      found = onward_start b.run.found b.run.found_count;
       alike = alike_same refl;
     }
 
-module _ {b : Beginning} {r : Run} {rejected found : List ℕ} where
-  module _ {rest : List Place} (at : Reached b rest r rejected found) (p : Progress) (grown : Grown (state_in r rejected found) p) where
+module _ {b : Beginning} {w : RunState} where
+  module _ {rest : List Place} (at : Reached b rest w) (p : Progress) (grown : Grown (state_in w) p) where
     -- the words that the state had are among those after it
-    rejected_grown : r.rejected ≤ length (state_of p).rejected
+    rejected_grown : w.rejected_count ≤ length (state_of p).rejected
     unfolding state_in
-    rejected_grown = omega (arith, grown.rejected, length-take-le r.rejected rejected at.stands.rejected_there)
+    rejected_grown = omega (arith, grown.rejected, how_many w.rejected w.rejected_there)
 
-    found_grown : r.found ≤ length (state_of p).found
+    found_grown : w.found_count ≤ length (state_of p).found
     unfolding state_in
-    found_grown = omega (arith, grown.found, length-take-le r.found found at.stands.found_there)
+    found_grown = omega (arith, grown.found, how_many w.found w.found_there)
 
     -- what progress that ends as the whole run leaves is what the whole run leaves
-    leaves_whole : Alike p (whole b) → {r' : Run} {rejected' found' : List ℕ} → Leaves p rejected found r' rejected' found'
-        → Done b r' rejected' found'
+    leaves_whole : Alike p (whole b) → {after : RunState} → Leaves p w after → Leaves (whole b) b.run after
     leaves_whole like left =
         record {
-          answered = left.answered ∙ like.answers;
-          rejected_left = left.rejected_left
-              ∙ at.rejected_tail (state_of p).rejected rejected_grown
-              ∙ ap (λ (words : List ℕ). overwrite words b.rejected) like.rejected;
-          found_left = left.found_left
-              ∙ at.found_tail (state_of p).found found_grown
-              ∙ ap (λ (words : List ℕ). overwrite words b.found) like.found;
+          replays = left.replays ∙ like.replays;
+          visits = left.visits ∙ like.visits;
+          rejected = held_whole at.rejected rejected_grown left.rejected like.rejected;
+          found = held_whole at.found found_grown left.found like.found;
         }
 
   -- nothing is to come
-  pub reached_end : Reached b [] r rejected found → Done b r rejected found
-  unfolding state_of
+  pub reached_end : Reached b [] w → Done b (Ok tt) w
+  unfolding state_of state_in
   reached_end at =
-      leaves_whole
-      at
-      (going (state_in r rejected found))
-      (record { rejected = le_refl _; found = le_refl _ })
-      at.alike
-      (stands_leaves at.stands)
+      record {
+        answered = at.alike.answers;
+        leaves =
+            leaves_whole
+            at
+            (going (state_in w))
+            (record { rejected = le_refl _; found = le_refl _ })
+            at.alike
+            (record { replays = refl; visits = refl; rejected = as_it_is w.rejected w.rejected_there; found = as_it_is w.found w.found_there });
+      }
 
   -- the front was taken
-  module _ (front rest : List Place) (at : Reached b (front ++ rest) r rejected found) where
+  module _ (front rest : List Place) (at : Reached b (front ++ rest) w) where
     abbrev room : Capacity
-    room = capacity_of rejected found b.budget
+    room = room_in w b.budget
 
     -- what the front came to
     abbrev taken : Progress
-    taken = over b front r rejected found
+    taken = over b front w
 
-    joined : over b (front ++ rest) r rejected found ≡ foldl (step b.verdict room) taken rest
-    joined = run_append b.verdict room (going (state_in r rejected found)) front rest
+    joined : over b (front ++ rest) w ≡ foldl (step b.verdict room) taken rest
+    joined = run_append b.verdict room (going (state_in w)) front rest
 
-    grown : Grown (state_in r rejected found) taken
+    grown : Grown (state_in w) taken
     unfolding state_of
-    grown = run_grown b.verdict room front (going (state_in r rejected found))
+    grown = run_grown b.verdict room front (going (state_in w))
 
-    module _ {r' : Run} {rejected' found' : List ℕ} (left : Leaves taken rejected found r' rejected' found') where
+    module _ {after : RunState} (left : Leaves taken w after) where
       -- a candidate counts as one visit at most
-      pub visits_left : r'.visits + length rest ≤ r.visits + length (front ++ rest)
-      unfolding state_in state_of summary
+      pub visits_left : after.visits + length rest ≤ w.visits + length (front ++ rest)
+      unfolding state_in state_of
       visits_left =
           omega (
             arith,
-            run_visits b.verdict room front (going (state_in r rejected found)),
-            ap (λ (x : Run). x.visits) left.answered,
+            run_visits b.verdict room front (going (state_in w)),
+            left.visits,
             length-append front rest,
           )
 
       -- and it stopped the run
-      pub reached_stop : (r'.end ≡ 0 → ⊥) → Done b r' rejected' found'
-      reached_stop off =
-          leaves_whole
-          at
-          taken
-          grown
-          (alike_trans (alike_same (sym (joined ∙ ended b.verdict room taken left off rest))) at.alike)
-          left
+      pub reached_stop : {end : End} → HasStopped taken end → Done b (Err end) after
+      reached_stop {end} has =
+          let all = joined
+          ∙ ap (λ (p : Progress). foldl (step b.verdict room) p rest) has.off
+          ∙ run_stopped b.verdict room end has.state rest
+          ∙ sym has.off
+          in
+          let like = alike_trans (alike_same (sym all)) at.alike in
+          record {
+            answered = ap outcome (sym has.off) ∙ like.answers;
+            leaves = leaves_whole at taken grown like left;
+          }
 
-      alike_onward : r'.end ≡ 0 → length rejected' ≡ length rejected → length found' ≡ length found
-          → Each (NotBelow (state_of taken).pruned) rest → Alike (over b rest r' rejected' found') (whole b)
-      alike_onward on kept kept' clear =
-          let given = run_end_given b.verdict room front (going (state_in r rejected found)) tt in
-          rw (same_room rejected found rejected' found' b.budget kept kept') (
-          alike_trans (resumed b.verdict room taken given left on clear) (alike_trans (alike_same (sym joined)) at.alike)
-          )
+      -- the buffers give the same room
+      same_room : room_in after b.budget ≡ room
+      unfolding capacity_of
+      same_room = rw (left.rejected.same_length, left.found.same_length)
 
       -- and it goes on
-      pub reached_on : r'.end ≡ 0 → length rejected' ≡ length rejected → length found' ≡ length found
-          → Each (NotBelow (state_of taken).pruned) rest → Reached b rest r' rejected' found'
-      unfolding summary
-      reached_on on kept kept' clear =
-          record {
-            stands = leaves_stands taken left on kept kept';
-            rejected_length = kept ∙ at.rejected_length;
-            found_length = kept' ∙ at.found_length;
-            rejected_tail =
-                tail_onward (state_of taken).rejected at.rejected_tail left.rejected_left (rejected_grown at taken grown) (ap (λ (x : Run). x.rejected) left.answered);
-            found_tail = tail_onward (state_of taken).found at.found_tail left.found_left (found_grown at taken grown) (ap (λ (x : Run). x.found) left.answered);
-            alike = alike_onward on kept kept' clear;
-          }
+      module _ (has : GoesOn taken) (clear : Each (NotBelow (state_of taken).pruned) rest) where
+        alike_onward : Alike (over b rest after) (whole b)
+        unfolding state_of
+        alike_onward =
+            let all = joined ∙ ap (λ (p : Progress). foldl (step b.verdict room) p rest) has.on in
+            let again = resumed b.verdict room has.state (rw has.on at left) (rw has.on at clear) in
+            rw same_room (alike_trans again (alike_trans (alike_same (sym all)) at.alike))
+
+        pub reached_on : Reached b rest after
+        reached_on =
+            record {
+              rejected = onward_more at.rejected (rejected_grown at taken grown) left.rejected;
+              found = onward_more at.found (found_grown at taken grown) left.found;
+              alike = alike_onward;
+            }

@@ -3,6 +3,7 @@
 -- first of these rows. What it prunes has the row's outputs, so no candidate of another row
 -- descends from it.
 -- Assumes nothing.
+use Rattle.std.specs.Prelude.{Ok, Err}
 use Prim.Native.Nat.{ℕ, ◌+◌, ◌≤◌, ◌<◌, ◌^◌}
 use native.Mathlib.Omega.{arith}
 use mathlib.Core.Path.{◌≡◌, refl, sym, ap, subst, ◌∙◌}
@@ -22,11 +23,12 @@ use Rattle.places.specs.Succession.{from, set_after, with_outputs, rows}
 use Rattle.candidate_order_spec.proofs.laws.From.{Apart, from_ends}
 use Rattle.candidate_order_spec.proofs.laws.SetOrder.{sets_distinct}
 use Rattle.candidate_order_spec.proofs.laws.Succession.{from_nothing, from_first, first_kind, after_from, after_kind}
-use Rattle.discovery_spec.specs.declared.Run.{Run}
+use Rattle.discovery_spec.specs.declared.End.{End}
 use Rattle.discovery_spec.specs.Search.{going, state_of}
-use Rattle.discovery_spec.specs.Discovery.{capacity_of}
-use Rattle.candidate_visit.specs.Standing.{state_in, Leaves}
-use Rattle.discovery.proofs.laws.Onward.{Beginning, over, Done, Reached, reached_end, visits_left, reached_stop, reached_on}
+use Rattle.candidate_visit.specs.declared.RunState.{RunState}
+use Rattle.candidate_visit.specs.Standing.{state_in, room_in}
+use Rattle.discovery.specs.Searching.{Carries}
+use Rattle.discovery.proofs.laws.Onward.{Beginning, over, Done, Reached, reached_end, visits_left, reached_stop, reached_on, goes_on, has_stopped}
 use Rattle.discovery.proofs.laws.PrunedAside.{NotBelow}
 use Rattle.discovery_spec.proofs.laws.RunSteps.{run_outputs}
 
@@ -79,15 +81,14 @@ module _ (n mi mo : ℕ) where
         )
 
 -- the loop at the input set i and the output set o, 0 after the last
-pub record OutputsLeft (b : Beginning) (n mi mo i o : ℕ) (r : Run) (rejected found : List ℕ) : Type 0 where
+pub record OutputsLeft (b : Beginning) (n mi mo i o : ℕ) (w : RunState) : Type 0 where
   pub inputs : candidate_set n mi i ≡ true
   pub outputs : (o ≡ 0) ⊎ (candidate_set n mo o ≡ true)
-  pub reached : Reached b (places_from n mi mo i o) r rejected found
-  pub countable : r.visits + length (places_from n mi mo i o) < 2 ^ 32
+  pub reached : Reached b (places_from n mi mo i o) w
+  pub countable : w.visits + length (places_from n mi mo i o) < 2 ^ 32
 
 -- the last row was taken
-pub outputs_done : {b : Beginning} {n mi mo i o : ℕ} {r : Run} {rejected found : List ℕ} → OutputsLeft b n mi mo i o r rejected found → o ≡ 0
-    → Done b r rejected found
+pub outputs_done : {b : Beginning} {n mi mo i o : ℕ} {w : RunState} → OutputsLeft b n mi mo i o w → o ≡ 0 → Done b (Ok tt) w
 unfolding rows
 outputs_done {n = n} {mo = mo} at none = reached_end (rw (none, from_nothing n mo) at at.reached)
 
@@ -100,10 +101,9 @@ pub record Ranges (n mi : ℕ) : Type 0 where
 module _
     {b : Beginning}
     {n mi mo i o : ℕ}
-    {r : Run}
-    {rejected found : List ℕ}
+    {w : RunState}
     (ranges : Ranges n mi)
-    (at : OutputsLeft b n mi mo i o r rejected found)
+    (at : OutputsLeft b n mi mo i o w)
     (more : o ≡ 0 → ⊥)
   where
     pub this_row : candidate_set n mo o ≡ true
@@ -126,7 +126,7 @@ module _
     split = first_row n mi mo ranges.few ranges.some_codes ranges.some_inputs i o this_row
 
     -- the row can be counted
-    pub row_countable : r.visits + length (from i (sets n mi)) < 2 ^ 32
+    pub row_countable : w.visits + length (from i (sets n mi)) < 2 ^ 32
     row_countable =
         omega (arith, at.countable, ap length split, length-append front rest, length-map (from i (sets n mi)) (λ (j : ℕ). place j o))
 
@@ -134,31 +134,30 @@ module _
     fewer_rows = omega (arith, ap length (after_from n mo ranges.few o this_row))
 
     -- nothing of the further rows stands below what the row pruned
-    clear : Each (NotBelow (state_of (over b front r rejected found)).pruned) rest
+    clear : Each (NotBelow (state_of (over b front w)).pruned) rest
     unfolding state_of state_in
     clear =
-        let start = going (state_in r rejected found) in
+        let start = going (state_in w) in
         let same = each_map (λ (j : ℕ). place j o) (each_always (λ j. refl) (from i (sets n mi))) in
-        let pruned = run_outputs b.verdict (capacity_of rejected found b.budget) o start same each_nil in
+        let pruned = run_outputs b.verdict (room_in w b.budget) o start same each_nil in
         each_imply
         (λ c other. other_outputs o c other pruned)
         (other_rows n mi mo ranges.few ranges.some_codes ranges.some_inputs i o this_row)
 
-    module _ {r' : Run} {rejected' found' : List ℕ} (left : Leaves (over b front r rejected found) rejected found r' rejected' found') where
-      reached_here : Reached b (front ++ rest) r rejected found
-      reached_here = rw split at at.reached
+    reached_here : Reached b (front ++ rest) w
+    reached_here = rw split at at.reached
 
+    module _ {after : RunState} where
       -- the row stopped the run
-      pub outputs_stop : (r'.end ≡ 0 → ⊥) → Done b r' rejected' found'
-      outputs_stop = reached_stop front rest reached_here left
+      pub outputs_stop : {end : End} → Carries (over b front w) w (Err end) after → Done b (Err end) after
+      outputs_stop row = reached_stop front rest reached_here row.leaves (has_stopped tt (over b front w) row.answered)
 
       -- the run goes on
-      pub outputs_on : r'.end ≡ 0 → length rejected' ≡ length rejected → length found' ≡ length found
-          → OutputsLeft b n mi mo 1 next r' rejected' found'
-      outputs_on on kept kept' =
+      pub outputs_on : Carries (over b front w) w (Ok tt) after → OutputsLeft b n mi mo 1 next after
+      outputs_on row =
           record {
             inputs = first_kind n mi ranges.few ranges.some_codes ranges.some_inputs;
             outputs = after_kind n mo ranges.few o this_row;
-            reached = reached_on front rest reached_here left on kept kept' clear;
-            countable = omega (arith, visits_left front rest reached_here left, at.countable, ap length split);
+            reached = reached_on front rest reached_here row.leaves (goes_on tt (over b front w) row.answered) clear;
+            countable = omega (arith, visits_left front rest reached_here row.leaves, at.countable, ap length split);
           }

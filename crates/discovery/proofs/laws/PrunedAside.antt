@@ -14,6 +14,7 @@ use Rattle.places.specs.Places.{word}
 use Rattle.places.specs.Candidates.{descends}
 use Rattle.replay_spec.specs.declared.Verdict.{Verdict}
 use Rattle.replay_spec.specs.declared.Verdict.TheVariants.{Fitting, Underfed, Overfed, Both}
+use Rattle.discovery_spec.specs.declared.End.TheVariants.{BudgetSpent, ListFull}
 use Rattle.discovery_spec.specs.Rejected.{rejected_word, ruled, ruled_overfed}
 use Rattle.discovery_spec.specs.Search.{Capacity, State, Progress, going, stopped, visited, replayed_once, with_found, with_rejected, with_pruned, proceed, is_pruned, accept, reject, conclude, replay, visit, step}
 
@@ -45,8 +46,8 @@ module _ (ps : List Place) where
     accept_aside c s = go (ltb (length s.found) room.found)
       where
         go : (b : Bool)
-            → cond b (proceed c (with_found (word c) (pruning ps s))) (stopped 2 (pruning ps s))
-            ≡ pruning_below ps (cond b (proceed c (with_found (word c) s)) (stopped 2 s))
+            → cond b (proceed c (with_found (word c) (pruning ps s))) (stopped ListFull (pruning ps s))
+            ≡ pruning_below ps (cond b (proceed c (with_found (word c) s)) (stopped ListFull s))
         go true = proceed_aside c (with_found (word c) s)
         go false = refl
 
@@ -73,8 +74,8 @@ module _ (ps : List Place) where
     replay_aside c s = go (leb room.budget s.replays)
       where
         go : (b : Bool)
-            → cond b (stopped 1 (pruning ps s)) (conclude room (verdict c) c (replayed_once (visited (pruning ps s))))
-            ≡ pruning_below ps (cond b (stopped 1 s) (conclude room (verdict c) c (replayed_once (visited s))))
+            → cond b (stopped BudgetSpent (pruning ps s)) (conclude room (verdict c) c (replayed_once (visited (pruning ps s))))
+            ≡ pruning_below ps (cond b (stopped BudgetSpent s) (conclude room (verdict c) c (replayed_once (visited s))))
         go true = refl
         go false = conclude_aside room (verdict c) c (replayed_once (visited s))
 

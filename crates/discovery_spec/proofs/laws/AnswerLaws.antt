@@ -1,45 +1,51 @@
--- What holds of the answer of the search call, whatever the log: it ends with 0, 1 or 2, no more
--- words are found and rejected than there is room for, replays are within the budget and no more
--- than visits, and visits are no more than candidates. An answer as defined has the number and the
--- value of the call's refusal.
+-- What holds of the answer of the search call, whatever the log: its end has the number 0, 1 or 2,
+-- no more words are found and rejected than there is room for, replays are within the budget and no
+-- more than visits, and visits are no more than candidates. An answer as defined has the number and
+-- the value of the call's refusal.
 -- Assumes nothing.
+use Rattle.std.specs.Prelude.{Result, Ok, Err}
 use Prim.Native.Nat.{ℕ, ◌≤◌}
 use native.Mathlib.Omega.{arith}
-use mathlib.Core.Path.{◌≡◌, refl, sym}
+use mathlib.Core.Path.{◌≡◌, sym}
 use mathlib.Core.List.{List, [], ◌∷◌}
-use mathlib.Core.Option.{Option, none, some}
 use lib.ListN.{length, length-append}
 use Rattle.foundation.specs.Lists.{foldl}
-use Rattle.foundation.proofs.laws.Booleans.{impossible}
 use Rattle.limits.specs.declared.Refusal.{Refusal}
 use Rattle.limits.specs.declared.Settings.{Settings}
-use Rattle.limits.specs.Refusals.{Numbered, answer}
+use Rattle.limits.specs.Refusals.{Numbered, answer_number, answer_value}
 use Rattle.limits.proofs.laws.AnswerNumbers.{answer_numbered}
 use Rattle.places.specs.declared.Place.{Place}
 use Rattle.places.specs.Places.{word}
 use Rattle.places.specs.Candidates.{candidates}
 use Rattle.event_log_spec.specs.Lines.{frames_of}
+use Rattle.event_log_spec.proofs.laws.LogChecks.{answer_accepted}
 use Rattle.replay_spec.specs.declared.Verdict.{Verdict}
 use Rattle.replay_spec.specs.Judgement.{verdict}
-use Rattle.discovery_spec.specs.declared.Discovered.{Discovered}
-use Rattle.discovery_spec.specs.declared.Discovered.TheVariants.{Ran, Refused}
+use Rattle.discovery_spec.specs.declared.End.{End}
+use Rattle.discovery_spec.specs.declared.End.TheVariants.{Completed, BudgetSpent, ListFull}
 use Rattle.discovery_spec.specs.declared.Run.{Run}
 use Rattle.discovery_spec.specs.Rejected.{rejected_word}
-use Rattle.discovery_spec.specs.Search.{Capacity, State, Progress, going, stopped, start, visited, replayed_once, with_found, with_rejected, step, search, end_of, state_of}
-use Rattle.discovery_spec.specs.Discovery.{run, summary, run_refusal, discovered, discovered_number, discovered_value, replays_in}
+use Rattle.discovery_spec.specs.Search.{end_number, Capacity, State, Progress, going, stopped, start, visited, replayed_once, with_found, with_rejected, step, search, state_of}
+use Rattle.discovery_spec.specs.Discovery.{run, summary, run_refusal, discovered, replays_in}
 use Rattle.discovery_spec.proofs.laws.Outcomes.{ReplayOutcome, spent, list_full, accepted, dropped, cached, Outcome, passed, known, replayed, step_outcome}
 use Rattle.discovery_spec.proofs.laws.RunCounts.{run_counts}
 
--- the words of a run have room, and its end is one of three
+-- every end has one of three numbers
+pub end_at_most : (end : End) → end_number end ≤ 2
+unfolding end_number
+end_at_most Completed = omega arith
+end_at_most BudgetSpent = omega arith
+end_at_most ListFull = omega arith
+
+-- the words of a run have room
 record Fits (room : Capacity) (p : Progress) : Type 0 where
-  end_known : end_of p ≤ 2
   found_fits : length (state_of p).found ≤ room.found
   rejected_fits : length (state_of p).rejected ≤ room.rejected
 
 module _ (verdict : Place → Verdict) (room : Capacity) where
   module _ (c : Place) (s : State) (before : Fits room (going s)) where
     replayed_fits : {p : Progress} → ReplayOutcome verdict room c s p → Fits room p
-    unfolding end_of state_of visited replayed_once with_found with_rejected
+    unfolding state_of visited replayed_once with_found with_rejected
     replayed_fits (spent h) = omega (arith, before.found_fits, before.rejected_fits)
     replayed_fits (list_full h f l) = omega (arith, before.found_fits, before.rejected_fits)
     replayed_fits (accepted h f l) = omega (arith, before.rejected_fits, length-append s.found (word c ∷ []))
@@ -47,7 +53,7 @@ module _ (verdict : Place → Verdict) (room : Capacity) where
     replayed_fits (cached h f l) = omega (arith, before.found_fits, length-append s.rejected (rejected_word c (verdict c) ∷ []))
 
     outcome_fits : {p : Progress} → Outcome verdict room c s p → Fits room p
-    unfolding end_of state_of visited
+    unfolding state_of visited
     outcome_fits (passed e) = before
     outcome_fits (known m r) = omega (arith, before.found_fits, before.rejected_fits)
     outcome_fits (replayed m u t) = replayed_fits t
@@ -62,31 +68,26 @@ module _ (verdict : Place → Verdict) (room : Capacity) where
   run_fits (c ∷ cs) p before = run_fits cs (step verdict room p c) (step_fits p c before)
 
   search_fits : (cs : List Place) → Fits room (search verdict room cs)
-  unfolding search start end_of state_of
+  unfolding search start state_of
   search_fits cs = run_fits cs (going start) (omega arith)
 
--- what a run answers, of a call that was not refused
-ran_summary : (o : Option Refusal) (x r : Run) → answer Refused o (Ran x) ≡ Ran r → x ≡ r
-ran_summary none x r e = cc
-ran_summary (some refusal) x r e = impossible (cc)
-
 pub record AnswerWithin (s : Settings) (room : Capacity) (r : Run) : Type 0 where
-  pub end_known : r.end ≤ 2
+  pub end_known : end_number r.end ≤ 2
   pub found_fits : r.found ≤ room.found
   pub rejected_fits : r.rejected ≤ room.rejected
   pub within_budget : r.replays ≤ room.budget
   pub replays_visits : r.replays ≤ r.visits
   pub visits_candidates : r.visits ≤ length (candidates s)
 
-pub answer_within : (s : Settings) (text : List ℕ) (room : Capacity) (r : Run) → discovered s text room ≡ Ran r → AnswerWithin s room r
+pub answer_within : (s : Settings) (text : List ℕ) (room : Capacity) (r : Run) → discovered s text room ≡ Ok r → AnswerWithin s room r
 unfolding discovered run summary
 answer_within s text room r e =
     let judged = verdict s.threshold (frames_of text) in
     let fits = search_fits judged room (candidates s) in
     let counts = run_counts judged room (candidates s) in
-    rw (sym (ran_summary (run_refusal s text) (summary (run s text room)) r e)) (
+    rw (sym (answer_accepted (run_refusal s text) (summary (run s text room)) r e).1) (
     record {
-      end_known = fits.end_known;
+      end_known = end_at_most _;
       found_fits = fits.found_fits;
       rejected_fits = fits.rejected_fits;
       within_budget = counts.within_budget;
@@ -96,14 +97,14 @@ answer_within s text room r e =
     )
 
 -- so an answer's replays are within the budget
-pub replays_within : (s : Settings) (text : List ℕ) (room : Capacity) (d : Discovered) → d ≡ discovered s text room → replays_in d ≤ room.budget
+pub replays_within : (s : Settings) (text : List ℕ) (room : Capacity) (d : Result Run Refusal) → d ≡ discovered s text room
+    → replays_in d ≤ room.budget
 unfolding replays_in
-replays_within s text room (Ran r) e = (answer_within s text room r (sym e)).within_budget
-replays_within s text room (Refused r) e = omega arith
+replays_within s text room (Ok r) e = (answer_within s text room r (sym e)).within_budget
+replays_within s text room (Err r) e = omega arith
 
 -- what is answered as defined has the number and the value of the refusal
-pub discovered_numbered : (s : Settings) (text : List ℕ) (room : Capacity) {d : Discovered} → d ≡ discovered s text room
-    → Numbered (run_refusal s text) (discovered_number d) (discovered_value d)
-unfolding discovered discovered_number discovered_value
-discovered_numbered s text room e =
-    rw e (answer_numbered Refused discovered_number discovered_value (λ r. refl) (λ r. refl) (run_refusal s text) _ refl refl)
+pub discovered_numbered : (s : Settings) (text : List ℕ) (room : Capacity) {d : Result Run Refusal} → d ≡ discovered s text room
+    → Numbered (run_refusal s text) (answer_number d) (answer_value d)
+unfolding discovered
+discovered_numbered s text room e = rw e (answer_numbered _ _)

@@ -3,12 +3,12 @@
 -- frames of known activities, so verdicts over it are monotone; and what holds of any two searches
 -- over a list of candidates by a monotone verdict holds of these.
 -- Assumes nothing.
+use Rattle.std.specs.Prelude.{None}
 use Prim.Native.Nat.{ℕ, ◌≤◌}
 use mathlib.Core.Path.{◌≡◌, refl}
 use mathlib.Core.Logic.Iff
 use mathlib.Core.Bool.{Bool, true, false}
 use mathlib.Core.List.{List}
-use mathlib.Core.Option.{none}
 use Rattle.foundation.specs.Lists.{Each}
 use Rattle.foundation.proofs.laws.Each.{each_keep}
 use Rattle.foundation.proofs.laws.Members.{member_keep}
@@ -60,7 +60,7 @@ module _ (s : Settings) (text : List ℕ) where
     few : s.activities ≤ most_activities
     monotone : MonotoneVerdict (verdict s.threshold (frames_of text))
 
-  suitable : run_refusal s text ≡ none → Suitable
+  suitable : run_refusal s text ≡ None → Suitable
   suitable e =
       let known = not_refused s text e in
       let few = known.settings.few_activities in
@@ -113,6 +113,6 @@ module _ (s : Settings) (text : List ℕ) where
 
 -- of any two runs that are not refused, the second with at least the room and the budget of the
 -- first
-pub two_runs : (s : Settings) (text : List ℕ) (first second : Capacity) → run_refusal s text ≡ none → AtLeast first second
+pub two_runs : (s : Settings) (text : List ℕ) (first second : Capacity) → run_refusal s text ≡ None → AtLeast first second
     → TwoRuns s text first second
 two_runs s text first second pass more = claim s text (suitable s text pass) first second more

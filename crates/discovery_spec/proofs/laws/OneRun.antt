@@ -3,8 +3,7 @@
 -- or pruned; so a run that completes found all of them, and one that stopped a beginning. And the
 -- words found only grow.
 -- Assumes nothing.
-use Prim.Native.Nat.{ℕ, ◌<◌}
-use native.Mathlib.Omega.{arith}
+use Prim.Native.Nat.{ℕ}
 use mathlib.Core.Path.{◌≡◌, refl, sym, ap, ◌∙◌}
 use mathlib.Core.Bool.{false}
 use mathlib.Core.List.{List, [], ◌∷◌, ◌++◌, map, append-nil, append_assoc}
@@ -13,6 +12,7 @@ use Rattle.places.specs.declared.Place.{Place}
 use Rattle.places.specs.Places.{word}
 use Rattle.places.proofs.laws.Words.{Storable}
 use Rattle.replay_spec.specs.declared.Verdict.{Verdict}
+use Rattle.discovery_spec.specs.declared.End.TheVariants.{Completed}
 use Rattle.discovery_spec.specs.Search.{Capacity, State, Progress, going, stopped, start, visited, replayed_once, with_found, with_rejected, step, search, end_of, state_of}
 use Rattle.discovery_spec.specs.TwoRuns.{is_fitting}
 use Rattle.discovery_spec.proofs.laws.Outcomes.{ReplayOutcome, spent, list_full, accepted, dropped, cached, Outcome, passed, known, replayed, step_outcome}
@@ -55,10 +55,10 @@ module _ (verdict : Place → Verdict) (room : Capacity) where
   step_grows (stopped end s) c = begins_refl s.found
 
 -- with the fitting ones among the remaining candidates a run that goes on has these words; one that
--- stopped has a beginning of them, and its end is above 0
+-- stopped did not complete, and has a beginning of them
 abbrev Accounted : (Place → Verdict) → List ℕ → List Place → Progress → Type 0
 Accounted verdict total cs (going s) = s.found ++ map word (fitting_among verdict cs) ≡ total
-Accounted verdict total cs (stopped end s) = (0 < end) × Begins s.found total
+Accounted verdict total cs (stopped end s) = (end ≡ Completed → ⊥) × Begins s.found total
 
 module _ (verdict : Place → Verdict) (room : Capacity) (total : List ℕ) where
   module _
@@ -76,8 +76,8 @@ module _ (verdict : Place → Verdict) (room : Capacity) (total : List ℕ) wher
 
       replayed_accounted : {p : Progress} → ReplayOutcome verdict room c s p → Accounted verdict total cs p
       unfolding visited replayed_once with_found with_rejected
-      replayed_accounted (spent h) = (omega arith, (remaining, sym before))
-      replayed_accounted (list_full h f l) = (omega arith, (remaining, sym before))
+      replayed_accounted (spent h) = (λ e. cc, (remaining, sym before))
+      replayed_accounted (list_full h f l) = (λ e. cc, (remaining, sym before))
       replayed_accounted (accepted h f l) = append_assoc s.found (word c ∷ []) (map word (fitting_among verdict cs)) ∙ rw f at before
       replayed_accounted (dropped h f l) = unfit_accounted f
       replayed_accounted (cached h f l) = unfit_accounted f
@@ -114,10 +114,10 @@ module _ (verdict : Place → Verdict) (monotone : MonotoneVerdict verdict) (roo
   unfolding search start state_of
   search_accounted = run_accounted verdict room total monotone storable (going start) (nothing_sound verdict) refl
 
-  accounted_all : (p : Progress) → Accounted verdict total [] p → end_of p ≡ 0 → (state_of p).found ≡ total
+  accounted_all : (p : Progress) → Accounted verdict total [] p → end_of p ≡ Completed → (state_of p).found ≡ total
   unfolding end_of state_of
   accounted_all (going s) e complete = sym (append-nil s.found) ∙ e
-  accounted_all (stopped end s) h complete = absurd (omega (arith, h.0))
+  accounted_all (stopped end s) h complete = absurd (h.0 complete)
 
   accounted_beginning : (p : Progress) → Accounted verdict total [] p → Begins (state_of p).found total
   unfolding state_of
@@ -125,7 +125,7 @@ module _ (verdict : Place → Verdict) (monotone : MonotoneVerdict verdict) (roo
   accounted_beginning (stopped end s) h = h.1
 
   -- a run that completes found exactly the fitting candidates, in their order
-  pub found_all : end_of (search verdict room cs) ≡ 0 → (state_of (search verdict room cs)).found ≡ map word (fitting_among verdict cs)
+  pub found_all : end_of (search verdict room cs) ≡ Completed → (state_of (search verdict room cs)).found ≡ map word (fitting_among verdict cs)
   found_all = accounted_all (search verdict room cs) search_accounted
 
   -- whatever its end, a run found a beginning of them

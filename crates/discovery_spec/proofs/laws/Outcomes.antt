@@ -15,6 +15,7 @@ use Rattle.places.specs.declared.Place.{Place}
 use Rattle.places.specs.Places.{word}
 use Rattle.replay_spec.specs.declared.Verdict.{Verdict}
 use Rattle.replay_spec.specs.declared.Verdict.TheVariants.{Fitting, Underfed, Overfed, Both}
+use Rattle.discovery_spec.specs.declared.End.TheVariants.{BudgetSpent, ListFull}
 use Rattle.discovery_spec.specs.Rejected.{rejected_word, rules_underfed, ruled_overfed, ruled}
 use Rattle.discovery_spec.specs.Search.{Capacity, State, Progress, going, stopped, visited, replayed_once, with_found, with_rejected, with_pruned, proceed, is_pruned, accept, reject, conclude, replay, visit, step}
 use Rattle.discovery_spec.specs.TwoRuns.{is_fitting}
@@ -41,9 +42,9 @@ tried s = replayed_once (visited s)
 -- what comes of a candidate that is to be replayed: the budget is spent, it fits and finds the list
 -- full or not, or it does not fit and finds the cache full or not
 pub data ReplayOutcome (verdict : Place → Verdict) (room : Capacity) (c : Place) (s : State) : Progress → Type 0 where
-  spent : room.budget ≤ s.replays → ReplayOutcome verdict room c s (stopped 1 s)
+  spent : room.budget ≤ s.replays → ReplayOutcome verdict room c s (stopped BudgetSpent s)
   list_full : s.replays < room.budget → is_fitting (verdict c) ≡ true → room.found ≤ length s.found
-      → ReplayOutcome verdict room c s (stopped 2 (tried s))
+      → ReplayOutcome verdict room c s (stopped ListFull (tried s))
   accepted : s.replays < room.budget → is_fitting (verdict c) ≡ true → length s.found < room.found
       → ReplayOutcome verdict room c s (going (with_found (word c) (tried s)))
   dropped : s.replays < room.budget → is_fitting (verdict c) ≡ false → room.rejected ≤ length s.rejected
@@ -137,7 +138,7 @@ module _ (verdict : Place → Verdict) (room : Capacity) (c : Place) (s : State)
       by_test
       (ltb n room.found)
       (λ l. (going (with_found (word c) (tried s)), accepted h f (ltb-true n room.found l)))
-      (λ l. (stopped 2 (tried s), list_full h f (ltb-false n room.found l)))
+      (λ l. (stopped ListFull (tried s), list_full h f (ltb-false n room.found l)))
 
   some_rejected : s.replays < room.budget → is_fitting (verdict c) ≡ false → (p : Progress) × ReplayOutcome verdict room c s p
   some_rejected h f =
@@ -152,7 +153,7 @@ module _ (verdict : Place → Verdict) (room : Capacity) (c : Place) (s : State)
   some_replayed =
       by_test
       (leb room.budget s.replays)
-      (λ e. (stopped 1 s, spent (leb-true room.budget s.replays e)))
+      (λ e. (stopped BudgetSpent s, spent (leb-true room.budget s.replays e)))
       (λ e. within (leb-false room.budget s.replays e))
     where
       within : s.replays < room.budget → (p : Progress) × ReplayOutcome verdict room c s p

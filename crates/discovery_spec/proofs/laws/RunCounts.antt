@@ -12,6 +12,7 @@ use Rattle.foundation.specs.Lists.{foldl}
 use Rattle.places.specs.declared.Place.{Place}
 use Rattle.places.specs.Places.{word}
 use Rattle.replay_spec.specs.declared.Verdict.{Verdict}
+use Rattle.discovery_spec.specs.declared.End.TheVariants.{Completed}
 use Rattle.discovery_spec.specs.Search.{Capacity, State, Progress, going, stopped, start, visited, replayed_once, with_found, with_rejected, step, search, end_of, state_of}
 use Rattle.discovery_spec.specs.TwoRuns.{is_fitting}
 use Rattle.discovery_spec.proofs.laws.Outcomes.{ReplayOutcome, spent, list_full, accepted, dropped, cached, Outcome, passed, known, replayed, step_outcome}
@@ -101,13 +102,13 @@ module _ (verdict : Place → Verdict) (room : Capacity) where
   run_ample [] p before = before
   run_ample (c ∷ cs) p before = run_ample cs (step verdict room p c) (step_ample c cs p before)
 
-  ample_ends : (p : Progress) → Ample verdict room [] p → end_of p ≡ 0
+  ample_ends : (p : Progress) → Ample verdict room [] p → end_of p ≡ Completed
   unfolding end_of
   ample_ends (going s) before = refl
   ample_ends (stopped end s) before = absurd before
 
   -- with a budget for every candidate and room for every fitting one a run completes
   pub ample_completes : (cs : List Place) → length (fitting_among verdict cs) ≤ room.found → length cs ≤ room.budget
-      → end_of (search verdict room cs) ≡ 0
+      → end_of (search verdict room cs) ≡ Completed
   unfolding search start
   ample_completes cs list budget = ample_ends (search verdict room cs) (run_ample cs (going start) (omega arith))

@@ -1,8 +1,8 @@
 -- What every candidate does to a run, and so every list of candidates: words are only added, a
--- candidate counts as one visit at most, a run that stops does so with an end other than 0, and at
--- most the candidate itself is added to the pruned.
+-- candidate counts as one visit at most, a run that stops did not complete, and at most the
+-- candidate itself is added to the pruned.
 -- Assumes nothing.
-use Prim.Native.Nat.{ℕ, ◌+◌, ◌≤◌, ◌<◌}
+use Prim.Native.Nat.{ℕ, ◌+◌, ◌≤◌}
 use native.Mathlib.Omega.{arith}
 use native.Mathlib.Nat.{le_refl, le_trans}
 use mathlib.Core.Path.{◌≡◌, refl}
@@ -14,14 +14,15 @@ use Rattle.foundation.specs.Lists.{Each, each_nil, each_cons, foldl}
 use Rattle.places.specs.declared.Place.{Place}
 use Rattle.places.specs.Places.{word}
 use Rattle.replay_spec.specs.declared.Verdict.{Verdict}
+use Rattle.discovery_spec.specs.declared.End.TheVariants.{Completed}
 use Rattle.discovery_spec.specs.Rejected.{rejected_word, ruled_overfed}
 use Rattle.discovery_spec.specs.Search.{Capacity, State, Progress, going, stopped, visited, replayed_once, with_found, with_rejected, step, state_of}
 use Rattle.discovery_spec.proofs.laws.Outcomes.{pruned_after, onward, ReplayOutcome, spent, list_full, accepted, dropped, cached, Outcome, passed, known, replayed, step_outcome}
 
--- a run that stopped did so with an end other than 0
+-- a run that stopped did not complete
 abbrev pub EndGiven : Progress → Type 0
 EndGiven (going s) = Unit {0}
-EndGiven (stopped end s) = 0 < end
+EndGiven (stopped end s) = end ≡ Completed → ⊥
 
 -- the words that a run has are no fewer than those of a state
 pub record Grown (s : State) (p : Progress) : Type 0 where
@@ -54,8 +55,8 @@ pruned_onward c s = go (ruled_overfed s.rejected c) refl
 module _ (verdict : Place → Verdict) (room : Capacity) (c : Place) (s : State) where
   replayed_stepped : {p : Progress} → ReplayOutcome verdict room c s p → Stepped c s p
   unfolding state_of visited replayed_once with_found with_rejected
-  replayed_stepped (spent h) = record { grown = omega arith; visits = omega arith; end_given = omega arith; pruned = inl refl }
-  replayed_stepped (list_full h f l) = record { grown = omega arith; visits = omega arith; end_given = omega arith; pruned = inl refl }
+  replayed_stepped (spent h) = record { grown = omega arith; visits = omega arith; end_given = λ e. cc; pruned = inl refl }
+  replayed_stepped (list_full h f l) = record { grown = omega arith; visits = omega arith; end_given = λ e. cc; pruned = inl refl }
   replayed_stepped (accepted h f l) = record { grown = omega (arith, length-append s.found (word c ∷ [])); visits = omega arith; end_given = tt; pruned = inl refl }
   replayed_stepped (dropped h f l) = record { grown = omega arith; visits = omega arith; end_given = tt; pruned = inl refl }
   replayed_stepped (cached h f l) =

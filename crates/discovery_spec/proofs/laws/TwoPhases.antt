@@ -21,6 +21,8 @@ use Rattle.places.specs.declared.Place.{Place}
 use Rattle.places.specs.Places.{word}
 use Rattle.places.proofs.laws.Words.{Storable}
 use Rattle.replay_spec.specs.declared.Verdict.{Verdict}
+use Rattle.discovery_spec.specs.declared.End.{End}
+use Rattle.discovery_spec.specs.declared.End.TheVariants.{Completed, BudgetSpent, ListFull}
 use Rattle.discovery_spec.specs.Search.{Capacity, State, Progress, going, stopped, start, visited, replayed_once, with_found, is_pruned, step, search, end_of, state_of}
 use Rattle.discovery_spec.specs.TwoRuns.{is_fitting, AtLeast}
 use Rattle.discovery_spec.proofs.laws.Outcomes.{tried, ReplayOutcome, spent, list_full, accepted, dropped, cached, Outcome, passed, known, replayed, step_outcome, outcome_is}
@@ -33,12 +35,12 @@ use Rattle.discovery_spec.proofs.laws.SecondPhase.{Ahead, full_ahead, known_pass
 data Paired (verdict : Place → Verdict) (first : Capacity) : Progress → Progress → Type 0 where
   together : {s : State} → Sound verdict s.rejected s.pruned → Paired verdict first (going s) (going s)
   apart : {s₁ s₂ : State} → Ahead verdict first s₁ s₂ → Paired verdict first (going s₁) (going s₂)
-  halted : (end : ℕ) {s₁ : State} {p₂ : Progress} → 0 < end → Begins s₁.found (state_of p₂).found
+  halted : (end : End) {s₁ : State} {p₂ : Progress} → (end ≡ Completed → ⊥) → Begins s₁.found (state_of p₂).found
       → Paired verdict first (stopped end s₁) p₂
 
 -- the second run completes too, and neither its replays nor its visits are more
 pub record CompletesToo (p₁ p₂ : Progress) : Type 0 where
-  pub completes : end_of p₂ ≡ 0
+  pub completes : end_of p₂ ≡ Completed
   pub replays : (state_of p₂).replays ≤ (state_of p₁).replays
   pub visits : (state_of p₂).visits ≤ (state_of p₁).visits
 
@@ -58,8 +60,8 @@ module _ (verdict : Place → Verdict) (monotone : MonotoneVerdict verdict) (fir
       unfolding state_of visited replayed_once
       together_step free (passed e) = same (passed e)
       together_step free (known n r) = same (known n r)
-      together_step free (replayed n u (spent h)) = halted 1 (omega arith) (step_grows verdict second (going s) c)
-      together_step free (replayed n u (list_full h f l)) = halted 2 (omega arith) (step_grows verdict second (going s) c)
+      together_step free (replayed n u (spent h)) = halted BudgetSpent (λ e. cc) (step_grows verdict second (going s) c)
+      together_step free (replayed n u (list_full h f l)) = halted ListFull (λ e. cc) (step_grows verdict second (going s) c)
       together_step free (replayed n u (accepted h f l)) = same (replayed n u (accepted (omega arith) f (omega arith)))
       together_step free (replayed n u (dropped h f l)) = absurd (omega arith)
       together_step free (replayed n u (cached h f l)) = same (replayed n u (cached (omega arith) f (omega arith)))
@@ -70,7 +72,7 @@ module _ (verdict : Place → Verdict) (monotone : MonotoneVerdict verdict) (fir
       wasted : is_fitting (verdict c) ≡ false → {p₁ : Progress} {t₂ : State} → ReplayOutcome verdict first c s₁ p₁
           → Ahead verdict first (tried s₁) t₂ → Paired verdict first p₁ (going t₂)
       unfolding state_of visited replayed_once
-      wasted unfit (spent h) b = halted 1 (omega arith) (same_begins b.found)
+      wasted unfit (spent h) b = halted BudgetSpent (λ e. cc) (same_begins b.found)
       wasted unfit (list_full h f l) b = impossible (cc)
       wasted unfit (accepted h f l) b = impossible (cc)
       wasted unfit (dropped h f l) b = apart b
@@ -101,8 +103,8 @@ module _ (verdict : Place → Verdict) (monotone : MonotoneVerdict verdict) (fir
       both_replayed : {p₁ p₂ : Progress} → ReplayOutcome verdict first c s₁ p₁ → ReplayOutcome verdict second c s₂ p₂
           → Paired verdict first p₁ p₂
       unfolding visited replayed_once
-      both_replayed (spent h) t = halted 1 (omega arith) (as_much t)
-      both_replayed (list_full h f l) t = halted 2 (omega arith) (as_much t)
+      both_replayed (spent h) t = halted BudgetSpent (λ e. cc) (as_much t)
+      both_replayed (list_full h f l) t = halted ListFull (λ e. cc) (as_much t)
       both_replayed (accepted h f l) t = both_fit h f l t
       both_replayed (dropped h f l) t = both_unfit h f t
       both_replayed (cached h f l) t = absurd (omega arith)
@@ -160,13 +162,13 @@ module _ (verdict : Place → Verdict) (monotone : MonotoneVerdict verdict) (fir
       → Begins (state_of (search verdict first cs)).found (state_of (search verdict second cs)).found
   first_begins storable = paired_begins (paired_searches storable)
 
-  paired_completes : {p₁ p₂ : Progress} → Paired verdict first p₁ p₂ → end_of p₁ ≡ 0 → CompletesToo p₁ p₂
+  paired_completes : {p₁ p₂ : Progress} → Paired verdict first p₁ p₂ → end_of p₁ ≡ Completed → CompletesToo p₁ p₂
   unfolding end_of state_of
   paired_completes (together sound) e = record { completes = refl; replays = le_refl _; visits = le_refl _ }
   paired_completes (apart a) e = record { completes = refl; replays = a.replays; visits = a.visits }
-  paired_completes (halted end h b) e = absurd (omega arith)
+  paired_completes (halted end h b) e = absurd (h e)
 
   -- where the first run completes, the second does as well
-  pub second_completes : {cs : List Place} → Each Storable cs → end_of (search verdict first cs) ≡ 0
+  pub second_completes : {cs : List Place} → Each Storable cs → end_of (search verdict first cs) ≡ Completed
       → CompletesToo (search verdict first cs) (search verdict second cs)
   second_completes storable = paired_completes (paired_searches storable)

@@ -1,21 +1,12 @@
--- `event_log::check_log` meets its contract: the check of the bound comes first, and then the text
--- decides.
+-- `event_log::check_log` meets its contract: its answer has the number and the value of the refusal.
 -- Assumes nothing.
-use mathlib.Core.Path.{sym, ◌∙◌}
-use Rattle.event_log_spec.proofs.laws.LogChecks.{bound_refused, checked_numbered}
-use Rattle.event_log.proofs.laws.LogPass.{text_decides}
+use Rattle.std.proofs.Common.{arith}
+use Rattle.event_log_spec.proofs.laws.LogChecks.{checked_numbered}
+use Rattle.event_log.proofs.laws.LogPass.{log_steps}
 use Rattle.event_log.proofs.check_log.Goals as goal
 
-pub returns-then-not-bound_in_range : goal.returns-then-not-bound_in_range
-returns-then-not-bound_in_range c =
-    let e = sym (bound_refused c.args.activities c.args.text.now (sym c.bound_in_range.ensures ∙ c.if-not-bound_in_range.true)) in
-    let both = checked_numbered c.args.activities c.args.text.now e in
-    record { answer = both.0; numbered = both.1 }
+pub returns-in_err-unless-clause-numbered : goal.returns-in_err-unless-clause-numbered
+returns-in_err-unless-clause-numbered c = checked_numbered c.args.activities c.args.text.now _ (grind (arith, log_steps))
 
-pub returns : goal.returns
-returns c =
-    let e =
-    c.check_text.ensures
-    ∙ sym (text_decides c.args.activities c.args.text.now (sym c.bound_in_range.ensures ∙ c.if-not-bound_in_range.false)) in
-    let both = checked_numbered c.args.activities c.args.text.now e in
-    record { answer = both.0; numbered = both.1 }
+pub returns-clause-numbered : goal.returns-clause-numbered
+returns-clause-numbered c = checked_numbered c.args.activities c.args.text.now _ (grind (arith, log_steps))

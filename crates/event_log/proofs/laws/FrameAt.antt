@@ -2,7 +2,9 @@
 -- digits, its end, and what stands after it. Each part of a written frame has its length, so each
 -- part is the text's at an index.
 -- Assumes nothing.
-use Prim.Native.Nat.{ℕ, ◌+◌, ◌-◌, ◌*◌, ◌^◌, ◌<◌}
+use Rattle.std.specs.Prelude.{Some}
+use Rattle.log_lines.specs.Reading.{count_in}
+use Prim.Native.Nat.{ℕ, ◌+◌, ◌-◌, ◌*◌, ◌^◌, ◌≤◌, ◌<◌}
 use native.Mathlib.Omega.{arith}
 use mathlib.Core.Path.{◌≡◌, sym, ap, ◌∙◌}
 use mathlib.Core.List.{List, ◌∷◌, ◌++◌, flat_map, append_assoc}
@@ -10,10 +12,10 @@ use lib.ListN.{length, take, drop, length-append, length-drop}
 use lib.Seq.{take_at, drop_at, drop-drop, drop-append-add}
 use Rattle.hex_digits.specs.Digits.{write_hex, line_feed}
 use Rattle.event_log_spec.specs.Frames.{Frame, count_digits, write_frame}
-use Rattle.event_log.specs.Stepping.{cases_at, trace_end}
+use Rattle.event_log.specs.Stepping.{trace_end}
 use Rattle.hex_digits.proofs.laws.DigitLaws.{length_write}
 use Rattle.event_log_spec.proofs.laws.PairLaws.{length_pairs}
-use Rattle.event_log.proofs.laws.FrameSteps.{cases_written, end_written}
+use Rattle.event_log.proofs.laws.FrameSteps.{count_written, end_written}
 
 module _ (text : List ℕ) (at : ℕ) (f : Frame) (rest : List ℕ) (e : drop at text ≡ write_frame f ++ rest) where
   -- the activity digits of the frame, and where they begin
@@ -27,8 +29,8 @@ module _ (text : List ℕ) (at : ℕ) (f : Frame) (rest : List ℕ) (e : drop at
   unfolding write_frame
   in_parts = e ∙ simp append_assoc
 
-  pub frame_cases : f.cases < 16 ^ count_digits → cases_at text at ≡ f.cases
-  frame_cases = cases_written text at f.cases (pairs ++ (line_feed ∷ rest)) in_parts
+  pub frame_count : 1 ≤ f.cases → f.cases < 16 ^ count_digits → count_in (drop at text) ≡ Some f.cases
+  frame_count = count_written text at f.cases (pairs ++ (line_feed ∷ rest)) in_parts
 
   pub from_digits : drop start text ≡ pairs ++ (line_feed ∷ rest)
   from_digits =

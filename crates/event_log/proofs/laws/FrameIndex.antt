@@ -3,13 +3,15 @@
 -- log has no more frames than there is room for, and so few bytes that where a frame starts leaves
 -- room for its cases in a word.
 -- Assumes nothing.
+use Rattle.std.specs.Prelude.{Some, is_some, true}
+use Rattle.std.proofs.lemmas.Option.{same_Some}
+use Rattle.log_lines.specs.Reading.{count_in}
 use Prim.Native.Nat.{ℕ, ◌+◌, ◌-◌, ◌*◌, ◌/◌, ◌≤◌, ◌<◌}
-use native.Mathlib.Nat.{sub-zero}
 use native.Mathlib.Omega.{arith}
 use mathlib.Core.Path.{◌≡◌, refl, sym, ap, ap₂, ◌∙◌}
 use mathlib.Core.List.{List, [], ◌∷◌, ◌++◌, flat_map, append-nil, append_assoc}
 use lib.ListN.{length, take, drop, set, length-append, length-drop}
-use lib.Seq.{length-take-le}
+use Rattle.std.proofs.lemmas.List.{nil_from_length}
 use Rattle.foundation.specs.Lists.{Each, each_nil, each_cons}
 use Rattle.foundation.proofs.laws.Lists.{each_head, each_tail}
 use Rattle.limits.specs.Settings.{most_activities}
@@ -18,10 +20,11 @@ use Rattle.foundation.proofs.laws.Buffers.{overwrite_more, take_overwritten}
 use Rattle.hex_digits.specs.Digits.{write_hex, line_feed}
 use Rattle.hex_digits.proofs.laws.DigitLaws.{length_write}
 use Rattle.event_log_spec.specs.Frames.{Frame, FrameUnder, WrittenLog, count_digits, most_frames, longest_frame, write_frame}
+use Rattle.event_log_spec.specs.Lines.{frames_of}
 use Rattle.event_log_spec.proofs.laws.PairLaws.{length_pairs}
-use Rattle.event_log.specs.Stepping.{cases_at, trace_end}
-use Rattle.event_log.specs.FrameIndex.{start_unit, case_unit, index_word, frame_index}
-use Rattle.event_log.proofs.laws.FrameAt.{frame_cases, frame_end, frame_inside, frame_next}
+use Rattle.event_log.specs.Stepping.{trace_end}
+use Rattle.event_log.specs.FrameIndex.{start_unit, case_unit, index_word, frame_index, Indexed}
+use Rattle.event_log.proofs.laws.FrameAt.{frame_count, frame_end, frame_inside, frame_next}
 
 -- the bytes of a frame, and of frames
 frame_bytes : (f : Frame) → length (write_frame f) ≡ count_digits + 2 * length f.trace + 1
@@ -46,104 +49,168 @@ frames_bytes (each_cons {x = f} {xs = frames} here later) =
 pub log_bytes : {A : ℕ} {frames : List Frame} {text : List ℕ} → WrittenLog A frames text → length text < case_unit / start_unit
 log_bytes log = omega (arith, ap length log.in_order, frames_bytes log.each, log.few_frames)
 
--- at the index the frames `left` are left, and the words of those before it are stored
-pub record Stored (text before index : List ℕ) (count at : ℕ) (frames left : List Frame) : Type 0 where
+pub log_small : (text : List ℕ) → WrittenLog most_activities (frames_of text) text → length text < case_unit / start_unit
+log_small text log = log_bytes log
+
+-- the frames that are left of a log from an index on
+pub record FramesLeft (text : List ℕ) (at : ℕ) : Type 0 where
+  pub left : List Frame
   pub written : drop at text ≡ flat_map write_frame left
   pub under : Each (FrameUnder most_activities) left
-  pub counted : count + length left ≡ length frames
+
+-- the first of them has its count, its digits and its line feed
+record FirstLeft (text : List ℕ) (at : ℕ) (left : List Frame) : Type 0 where
+  first : Frame
+  later : List Frame
+  parts : left ≡ first ∷ later
+  under : FrameUnder most_activities first
+  later_under : Each (FrameUnder most_activities) later
+  written : drop at text ≡ write_frame first ++ flat_map write_frame later
+
+module _ (text : List ℕ) (at : ℕ) (f : FramesLeft text at) where
+  module _ (more : at < length text) where
+    first_left : FirstLeft text at f.left
+    unfolding flat_map
+    first_left = go f.left f.written f.under
+      where
+        go : (left : List Frame) → drop at text ≡ flat_map write_frame left → Each (FrameUnder most_activities) left → FirstLeft text at left
+        go [] written under = absurd (omega (arith, length-drop at text, ap length written))
+        go (first ∷ later) written under =
+            record {
+              first = first;
+              later = later;
+              parts = refl;
+              under = each_head under;
+              later_under = each_tail under;
+              written = written;
+            }
+
+    abbrev trace : List ℕ
+    trace = first_left.first.trace
+
+    end : trace_end text (at + count_digits) ≡ at + count_digits + 2 * length trace
+    end = frame_end text at first_left.first (flat_map write_frame first_left.later) first_left.written
+
+    pub some_left : 1 ≤ length f.left
+    some_left = omega (arith, ap length first_left.parts)
+
+    pub end_onward : at + count_digits ≤ trace_end text (at + count_digits)
+    end_onward = omega (arith, end)
+
+    pub end_inside : trace_end text (at + count_digits) < length text
+    end_inside = frame_inside text at first_left.first (flat_map write_frame first_left.later) first_left.written
+
+    pub digits_fit : trace_end text (at + count_digits) - (at + count_digits) < start_unit
+    digits_fit = omega (arith, end, first_left.under.short)
+
+    first_count : count_in (drop at text) ≡ Some first_left.first.cases
+    first_count =
+        frame_count
+        text
+        at
+        first_left.first
+        (flat_map write_frame first_left.later)
+        first_left.written
+        first_left.under.counted
+        first_left.under.countable
+
+    pub some_count : is_some (count_in (drop at text)) ≡ true
+    some_count = ap is_some first_count
+
+    same_count : (cases : ℕ) → count_in (drop at text) ≡ Some cases → cases ≡ first_left.first.cases
+    same_count cases e = same_Some cases first_left.first.cases (sym e ∙ first_count)
+
+    pub cases_fit : (cases : ℕ) → count_in (drop at text) ≡ Some cases → cases < case_unit
+    cases_fit cases e = omega (arith, same_count cases e, first_left.under.countable)
+
+  pub none_left : length text ≤ at → length f.left ≡ 0
+  unfolding flat_map
+  none_left over = go f.left f.written
+    where
+      go : (left : List Frame) → drop at text ≡ flat_map write_frame left → length left ≡ 0
+      go [] written = refl
+      go (first ∷ later) written =
+          let rest = flat_map write_frame later in
+          absurd (omega (arith, frame_end text at first rest written, frame_inside text at first rest written))
+
+-- the words of the frames before an index of the text stand in front of a buffer
+pub record Stored (text before index : List ℕ) (count at : ℕ) : Type 0 where
+  pub frames : FramesLeft text at
+  pub counted : count + length frames.left ≡ length (frames_of text)
   pub done : List ℕ
   pub measured : length done ≡ count
   pub stored : index ≡ overwrite done before
-  pub together : done ++ frame_index at left ≡ frame_index 0 frames
+  pub together : done ++ frame_index at frames.left ≡ frame_index 0 (frames_of text)
 
-abbrev pub SomeStored : List ℕ → List ℕ → List ℕ → ℕ → ℕ → List Frame → Type 0
-SomeStored text before index count at frames = (left : List Frame) × Stored text before index count at frames left
+module _ (text before : List ℕ) (log : WrittenLog most_activities (frames_of text) text) where
+  pub none_stored : Stored text before before 0 0
+  none_stored =
+      record {
+        frames = record { left = frames_of text; written = log.in_order; under = log.each };
+        counted = omega arith;
+        done = [];
+        measured = refl;
+        stored = refl;
+        together = refl;
+      }
 
--- one turn stores the word of the frame at the index, whose digits are between `start` and `end`
-pub record Turn (text before index : List ℕ) (count at start end cases : ℕ) (frames : List Frame) : Type 0 where
-  pub inside : end < length text
-  pub onward : start ≤ end
-  pub digits_fit : end - start < start_unit
-  pub start_fits : start < case_unit / start_unit
-  pub cases_fit : cases < case_unit
-  pub room : count < most_frames
-  pub after : most_frames ≤ length index
-      → SomeStored text before (set index count (index_word (end - start) start cases)) (count + 1) (end + 1) frames
-
-module _ (text before : List ℕ) (frames : List Frame) (log : WrittenLog most_activities frames text) where
-  pub none_stored : SomeStored text before before 0 0 frames
-  none_stored = (
-    frames,
-    record { written = log.in_order; under = log.each; counted = omega arith; done = []; measured = refl; stored = refl; together = refl },
-  )
-
-  module _ (index : List ℕ) (count at : ℕ) where
-    pub turn : at < length text → SomeStored text before index count at frames
-        → Turn text before index count at (at + count_digits) (trace_end text (at + count_digits)) (cases_at text at) frames
-    unfolding flat_map frame_index
-    turn more ([], s) = absurd (omega (arith, length-drop at text, ap length s.written))
-    turn more (f ∷ left, s) =
-        let rest = flat_map write_frame left in
-        let small = (each_head s.under).countable in
-        let cases = frame_cases text at f rest s.written small in
-        let end = frame_end text at f rest s.written in
-        let inside = frame_inside text at f rest s.written in
+  module _ (index : List ℕ) (count at : ℕ) (s : Stored text before index count at) where
+    -- one turn stores the word of the frame at the index
+    pub one_stored : (cases : ℕ) → at < length text → most_frames ≤ length index → count_in (drop at text) ≡ Some cases
+        → let start = at + count_digits in
+        let end = trace_end text start in
+        Stored text before (set index count (index_word (end - start) start cases)) (count + 1) (end + 1)
+    unfolding frame_index
+    one_stored cases more wide e =
+        let f = first_left text at s.frames more in
         let start = at + count_digits in
-        let digits : trace_end text start - start ≡ 2 * length f.trace = omega (arith, end) in
-        let word = index_word (trace_end text start - start) start (cases_at text at) in
+        let word = index_word (trace_end text start - start) start cases in
+        let digits : trace_end text start - start ≡ 2 * length f.first.trace = omega (arith, end text at s.frames more) in
+        let together : s.done ++ frame_index at (f.first ∷ f.later) ≡ frame_index 0 (frames_of text) = rw f.parts at s.together in
         record {
-          inside = inside;
-          onward = omega (arith, end);
-          digits_fit = omega (arith, digits, (each_head s.under).short);
-          start_fits = omega (arith, inside, end, log_bytes log);
-          cases_fit = omega (arith, cases, small);
-          room = omega (arith, s.counted, log.few_frames);
-          after =
-              λ wide. (
-                left,
-                record {
-                  written = frame_next text at f rest s.written;
-                  under = each_tail s.under;
-                  counted = omega (arith, s.counted);
-                  done = s.done ++ (word ∷ []);
-                  measured = omega (arith, length-append s.done (word ∷ []), s.measured);
-                  stored =
-                      ap₂ (λ (buffer : List ℕ) (n : ℕ). set buffer n word) s.stored (sym s.measured)
-                      ∙ overwrite_more before s.done word (omega (arith, s.measured, s.counted, log.few_frames, wide, ap length s.stored));
-                  together =
-                      append_assoc s.done (word ∷ []) (frame_index (trace_end text (at + count_digits) + 1) left) ∙ rw (digits, end, cases) s.together;
-                },
-              );
+          frames =
+              record {
+                left = f.later;
+                written = frame_next text at f.first (flat_map write_frame f.later) f.written;
+                under = f.later_under;
+              };
+          counted = omega (arith, s.counted, ap length f.parts);
+          done = s.done ++ (word ∷ []);
+          measured = omega (arith, length-append s.done (word ∷ []), s.measured);
+          stored =
+              ap₂ (λ (buffer : List ℕ) (n : ℕ). set buffer n word) s.stored (sym s.measured)
+              ∙ overwrite_more before s.done word (omega (arith, s.measured, s.counted, ap length f.parts, log.few_frames, wide, ap length s.stored));
+          together =
+              append_assoc s.done (word ∷ []) (frame_index (trace_end text start + 1) f.later)
+              ∙ rw (digits, end text at s.frames more, same_count text at s.frames more cases e) together;
         }
 
-    pub all_stored : length text ≤ at → SomeStored text before index count at frames
-        → (count ≡ length frames) × (index ≡ overwrite (frame_index 0 frames) before)
-    unfolding flat_map frame_index
-    all_stored over ([], s) = (
-      omega (arith, s.counted),
-      s.stored ∙ ap (λ (front : List ℕ). overwrite front before) (sym (append-nil s.done) ∙ s.together),
-    )
-    all_stored over (f ∷ left, s) =
-        let rest = flat_map write_frame left in
-        absurd (omega (arith, frame_end text at f rest s.written, frame_inside text at f rest s.written))
+    pub all_stored : length text ≤ at → index ≡ overwrite (frame_index 0 (frames_of text)) before
+    unfolding frame_index
+    all_stored over =
+        let none : s.frames.left ≡ [] = nil_from_length s.frames.left (none_left text at s.frames over) in
+        let together : s.done ++ [] ≡ frame_index 0 (frames_of text) = rw none at s.together in
+        s.stored ∙ ap (λ (front : List ℕ). overwrite front before) (sym (append-nil s.done) ∙ together)
+
+pub ruleset frames_stored = (log_small, some_left, end_onward, end_inside, digits_fit, some_count, cases_fit, none_left, none_stored, one_stored, all_stored)
 
 pub length_index : (from : ℕ) (frames : List Frame) → length (frame_index from frames) ≡ length frames
 unfolding frame_index
 length_index from [] = refl
 length_index from (f ∷ frames) = omega (arith, length_index (from + count_digits + 2 * length f.trace + 1) frames)
 
--- the words that were stored can be taken from the front of their buffer
-module _ (frames : List Frame) (before after : List ℕ) (count : ℕ) (counted : count ≡ length frames)
-    (stored : after ≡ overwrite (frame_index 0 frames) before) where
-  pub stored_room : count ≤ length after
-  stored_room =
-      let index = frame_index 0 frames in
-      omega (arith, counted, length_index 0 frames, ap length stored, length-append index (drop (length index) before))
-
-  pub stored_length : length (take (count - 0) after) ≡ count
-  stored_length = omega (arith, length-take-le (count - 0) after (omega (arith, stored_room)), sub-zero count)
-
-  pub stored_index : take (count - 0) after ≡ frame_index 0 frames
-  stored_index =
-      ap₂ (λ (n : ℕ) (buffer : List ℕ). take n buffer) (sub-zero count ∙ counted ∙ sym (length_index 0 frames)) stored
-      ∙ take_overwritten before (frame_index 0 frames)
+-- the words that were stored, taken from the front of their buffer, are the index of the log
+pub log_indexed : (text before after : List ℕ) (count : ℕ) → WrittenLog most_activities (frames_of text) text
+    → count ≡ length (frames_of text) → after ≡ overwrite (frame_index 0 (frames_of text)) before
+    → Indexed text (take count after)
+log_indexed text before after count log counted stored =
+    let index = frame_index 0 (frames_of text) in
+    record {
+      log = log;
+      indexed =
+          ap₂
+          (λ (n : ℕ) (buffer : List ℕ). take n buffer)
+          (counted ∙ sym (length_index 0 (frames_of text)))
+          stored
+          ∙ take_overwritten before index;
+    }

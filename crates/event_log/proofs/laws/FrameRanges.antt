@@ -5,18 +5,13 @@
 use Prim.Native.Nat.{ℕ, suc, ◌+◌, ◌-◌, ◌≤◌, ◌<◌}
 use native.Mathlib.Nat.{sub-zero}
 use native.Mathlib.Omega.{arith}
-use mathlib.Core.Path.{◌≡◌, ap, ◌∙◌}
+use mathlib.Core.Path.{◌≡◌}
 use mathlib.Core.List.{List, [], ◌∷◌, ◌++◌}
 use lib.ListN.{length, drop, length-drop}
 use lib.Seq.{take-suc, take-length, get_or-drop}
 use Rattle.event_log_spec.specs.Frames.{Frame}
 use Rattle.event_log_spec.specs.Lines.{frames_of}
-use Rattle.event_log.specs.FrameIndex.{Indexed, frame_at, frames_between}
-use Rattle.event_log.proofs.laws.FrameIndex.{length_index}
-
--- there are as many words as frames
-pub index_length : {text index : List ℕ} → Indexed text index → length index ≡ length (frames_of text)
-index_length {text} i = ap length i.indexed ∙ length_index 0 (frames_of text)
+use Rattle.event_log.specs.FrameIndex.{frame_at, frames_between}
 
 module _ (text : List ℕ) where
   pub frames_none : (line : ℕ) → frames_between line line text ≡ []

@@ -67,19 +67,30 @@ module _ (text : List ℕ) (small : length text < case_unit / start_unit) where
       line
       (omega arith)
 
+-- there are as many words as frames
+pub index_length : {text index : List ℕ} → Indexed text index → length index ≡ length (frames_of text)
+index_length {text} i = ap length i.indexed ∙ length_index 0 (frames_of text)
+
 -- so of a log with its index
-pub frame_found : {text index : List ℕ} → Indexed text index → (line : ℕ) → line < length index → WordOf text (frame_at text line) (get_or index line 0)
-frame_found {text} {index} i line less =
-    rw i.indexed
-    (word_found
-    text
-    (log_bytes i.log)
-    0
-    (frames_of text)
-    i.log.in_order
-    i.log.each
-    line
-    (omega (arith, ap length i.indexed, length_index 0 (frames_of text))))
+module _ {text index : List ℕ} (i : Indexed text index) (line : ℕ) (less : line < length (frames_of text)) where
+  pub frame_found : WordOf text (frame_at text line) (get_or index line 0)
+  frame_found = rw i.indexed (word_found text (log_bytes i.log) 0 (frames_of text) i.log.in_order i.log.each line less)
+
+  -- by parts
+  pub cases_found : word_cases (get_or index line 0) ≡ (frame_at text line).cases
+  cases_found = frame_found.cases
+
+  pub digits_inside : word_start (get_or index line 0) + word_digits (get_or index line 0) ≤ length text
+  digits_inside = frame_found.inside
+
+  pub digits_found : let w = get_or index line 0 in
+      take (word_start w + word_digits w - word_start w) (drop (word_start w) text) ≡ activity_digits (frame_at text line)
+  digits_found =
+      let w = get_or index line 0 in
+      let size : word_start w + word_digits w - word_start w ≡ word_digits w = omega arith in
+      rw size frame_found.digits
+
+pub ruleset found = (index_length, cases_found, digits_inside, digits_found)
 
 -- the first frame without an index: its digits are those from the count to the line feed
 pub record FirstDigits (text : List ℕ) : Type 0 where
@@ -103,3 +114,16 @@ first_found text w = go (frames_of text) refl
           ends = frame_inside text 0 f rest begins;
           digits = rw e (frame_part text 0 f rest begins);
         }
+
+-- by parts
+module _ (text : List ℕ) (w : WrittenLog most_activities (frames_of text) text) where
+  pub first_starts : count_digits ≤ trace_end text count_digits
+  first_starts = (first_found text w).starts
+
+  pub first_ends : trace_end text count_digits < length text
+  first_ends = (first_found text w).ends
+
+  pub first_digits_found : take (trace_end text count_digits - count_digits) (drop count_digits text) ≡ activity_digits (frame_at text 0)
+  first_digits_found = (first_found text w).digits
+
+pub ruleset first_part = (first_starts, first_ends, first_digits_found)

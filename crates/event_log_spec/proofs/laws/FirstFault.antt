@@ -2,6 +2,8 @@
 -- of the first such line, which it names. The lines are tried from the front; `LineFaults` has the
 -- order of the faults of one line.
 -- Assumes nothing.
+use Rattle.std.specs.Prelude.{None, Some, Err}
+use Rattle.std.proofs.lemmas.Option.{none-some}
 use Prim.Native.Nat.{ℕ, zero, suc, ◌+◌, ◌≤◌, ◌<◌}
 use native.Mathlib.Nat.{zero-add, add-zero}
 use native.Mathlib.Omega.{arith}
@@ -9,14 +11,11 @@ use mathlib.Core.Path.{◌≡◌, sym, ◌∙◌}
 use mathlib.Core.Logic.{◌↔◌}
 use mathlib.Core.Bool.{true, false}
 use mathlib.Core.List.{List, [], ◌∷◌}
-use mathlib.Core.Option.{none, some, none-ne-some}
 use lib.ListN.{length, get_or}
 use Rattle.limits.specs.declared.Refusal.{Refusal}
 use Rattle.limits.specs.Settings.{bound_in_range}
-use Rattle.event_log_spec.specs.declared.Checked.TheVariants.{Refused}
-use Rattle.event_log_spec.specs.Frames.{total_cases}
-use Rattle.event_log_spec.specs.Lines.{Line, lines, frames_of}
-use Rattle.event_log_spec.specs.Checking.{line_fault, lines_fault, text_fault, checked}
+use Rattle.event_log_spec.specs.Lines.{Line, lines}
+use Rattle.event_log_spec.specs.Checking.{line_fault, lines_fault, text_fault, size_of, checked}
 use Rattle.limits.proofs.laws.FirstOf.{first_some}
 use Rattle.event_log_spec.proofs.laws.LogChecks.{bound_passes, lines_decide, answer_refused}
 use Rattle.event_log_spec.proofs.laws.LineFaults.{NamesLine, fault_order, names_line}
@@ -27,24 +26,24 @@ line_at ls k = get_or ls k (record { bytes = []; ended = false })
 
 -- of lines counted from `start`, those before the one with index k have no fault
 abbrev SoundBefore : ℕ → ℕ → List Line → ℕ → Type 0
-SoundBefore A start ls k = (j : ℕ) → j < k → line_fault A (start + j) (line_at ls j) ≡ none
+SoundBefore A start ls k = (j : ℕ) → j < k → line_fault A (start + j) (line_at ls j) ≡ None
 
 -- of lines counted from `start`, the first that has a fault
 record FirstFrom (A start : ℕ) (ls : List Line) (r : Refusal) : Type 0 where
   index : ℕ
   there : index < length ls
   sound_before : SoundBefore A start ls index
-  faulty : line_fault A (start + index) (line_at ls index) ≡ some r
+  faulty : line_fault A (start + index) (line_at ls index) ≡ Some r
 
 shifted : (A start j : ℕ) (l : Line) → line_fault A (start + suc j) l ≡ line_fault A (suc start + j) l
 shifted A start j l = let same : start + suc j ≡ suc start + j = omega arith in rw same
 
 module _ (A : ℕ) (r : Refusal) where
-  here_first : (start : ℕ) (l : Line) (ls : List Line) → line_fault A start l ≡ some r → FirstFrom A start (l ∷ ls) r
+  here_first : (start : ℕ) (l : Line) (ls : List Line) → line_fault A start l ≡ Some r → FirstFrom A start (l ∷ ls) r
   here_first start l ls e =
       record { index = 0; there = omega arith; sound_before = λ j h. absurd (omega arith); faulty = rw (add-zero start) e }
 
-  later_first : (start : ℕ) (l : Line) (ls : List Line) → line_fault A start l ≡ none → FirstFrom A (suc start) ls r
+  later_first : (start : ℕ) (l : Line) (ls : List Line) → line_fault A start l ≡ None → FirstFrom A (suc start) ls r
       → FirstFrom A start (l ∷ ls) r
   later_first start l ls e f =
       record {
@@ -58,9 +57,9 @@ module _ (A : ℕ) (r : Refusal) where
       before zero h = rw (add-zero start) e
       before (suc j) h = shifted A start j (line_at ls j) ∙ f.sound_before j (omega arith)
 
-  first_from : (start : ℕ) (ls : List Line) → lines_fault A start ls ≡ some r → FirstFrom A start ls r
+  first_from : (start : ℕ) (ls : List Line) → lines_fault A start ls ≡ Some r → FirstFrom A start ls r
   unfolding lines_fault
-  first_from start [] e = absurd (none-ne-some r e)
+  first_from start [] e = absurd (none-some r e)
   first_from start (l ∷ ls) e =
       first_some
       (line_fault A start l)
@@ -71,8 +70,8 @@ module _ (A : ℕ) (r : Refusal) where
       (λ none_here later. later_first start l ls none_here (first_from (suc start) ls later))
 
   from_first : (start : ℕ) (ls : List Line) (k : ℕ) → k < length ls → SoundBefore A start ls k
-      → line_fault A (start + k) (line_at ls k) ≡ some r
-      → lines_fault A start ls ≡ some r
+      → line_fault A (start + k) (line_at ls k) ≡ Some r
+      → lines_fault A start ls ≡ Some r
   unfolding lines_fault
   from_first start [] k there before faulty = absurd (omega arith)
   from_first start (l ∷ ls) zero there before faulty = let here = rw (add-zero start) at faulty in rw here
@@ -85,8 +84,8 @@ module _ (A : ℕ) (r : Refusal) where
 pub record FirstFaultyLine (A : ℕ) (text : List ℕ) (r : Refusal) : Type 0 where
   pub index : ℕ
   pub there : index < length (lines text)
-  pub sound_before : (j : ℕ) → j < index → line_fault A j (line_at (lines text) j) ≡ none
-  pub faulty : line_fault A index (line_at (lines text) index) ≡ some r
+  pub sound_before : (j : ℕ) → j < index → line_fault A j (line_at (lines text) j) ≡ None
+  pub faulty : line_fault A index (line_at (lines text) index) ≡ Some r
   pub names : NamesLine index r
 
 module _ (A : ℕ) (text : List ℕ) (r : Refusal) where
@@ -98,10 +97,10 @@ module _ (A : ℕ) (text : List ℕ) (r : Refusal) where
         there = f.there;
         sound_before = λ j h. rw (zero-add j) at (f.sound_before j h);
         faulty = faulty;
-        names = names_line ((fault_order A f.index (line_at (lines text) f.index) (some r)).0 faulty);
+        names = names_line ((fault_order A f.index (line_at (lines text) f.index) (Some r)).0 faulty);
       }
 
-  pub first_faulty_line : (text_fault A text ≡ some r) ↔ FirstFaultyLine A text r
+  pub first_faulty_line : (text_fault A text ≡ Some r) ↔ FirstFaultyLine A text r
   unfolding text_fault
   first_faulty_line = (
     λ e. first_line (first_from A r 0 (lines text) e),
@@ -113,9 +112,9 @@ module _ (A : ℕ) (text : List ℕ) (r : Refusal) where
 
 -- checking a text of some bytes under a bound in its range refuses it for just this
 pub refused_exactly : (A : ℕ) (text : List ℕ) (r : Refusal) → bound_in_range A ≡ true → 1 ≤ length text
-    → (checked A text ≡ Refused r) ↔ FirstFaultyLine A text r
+    → (checked A text ≡ Err r) ↔ FirstFaultyLine A text r
 unfolding checked
 refused_exactly A text r in_range some_byte =
-    let law = answer_refused (text_fault A text) (length (frames_of text)) (total_cases (frames_of text)) r in
+    let law = answer_refused (text_fault A text) (size_of text) r in
     rw ((bound_passes A).1 in_range, lines_decide A text some_byte)
     (λ e. (first_faulty_line A text r).0 (law.0 e), λ f. law.1 ((first_faulty_line A text r).1 f))

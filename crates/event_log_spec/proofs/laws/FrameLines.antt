@@ -2,12 +2,12 @@
 -- then that frame is the one read from it. The count and the activities are read back digit by
 -- digit, and the checks of the trace are those of the written form.
 -- Assumes nothing.
+use Rattle.std.specs.Prelude.{None}
 use Prim.Native.Nat.{ℕ, ◌+◌, ◌-◌, ◌*◌, ◌/◌, ◌%◌, ◌^◌, ◌≤◌, ◌<◌}
 use native.Mathlib.Omega.{arith}
 use mathlib.Core.Path.{◌≡◌, refl, sym, ap, ap₂, subst, ◌∙◌}
 use mathlib.Core.Bool.{true, false, not, ◌||◌}
 use mathlib.Core.List.{◌++◌, flat_map}
-use mathlib.Core.Option.{none}
 use borrow.Author.Tests.{not-false, eqb-false, ltb-false, ne_eqb, le-ltb}
 use lib.Dec.{eqb, ltb}
 use lib.ListN.{length, take, drop, length-append, length-drop, take-append-drop}
@@ -142,10 +142,10 @@ module _ (A k : ℕ) where
   frame_readable narrow few u =
       record { few = few; formed = not_malformed (frame_formed narrow u); short = rw (under_back narrow u) u.short }
 
-  pub frame_no_fault : {f : Frame} → A ≤ 256 → k < most_frames → FrameUnder A f → line_fault A k (frame_line f) ≡ none
+  pub frame_no_fault : {f : Frame} → A ≤ 256 → k < most_frames → FrameUnder A f → line_fault A k (frame_line f) ≡ None
   frame_no_fault {f} narrow few u =
       let back = under_back narrow u in
-      (fault_order A k (frame_line f) none).1
+      (fault_order A k (frame_line f) None).1
       (no_fault (frame_readable narrow few u) (rw back (none_unknown A u.known)) (rw back (behaviour_placed u.behaviour)))
 
   readable_under : {l : Line} → Readable k l → names_unknown A (frame_of l).trace ≡ false → endpoint_misplaced (frame_of l).trace ≡ false
@@ -163,9 +163,9 @@ module _ (A k : ℕ) where
         behaviour = placed_behaviour trace long placed;
       }
 
-  framed : {l : Line} → FaultOrder A k l none → (k < most_frames) × FramedLine A l
+  framed : {l : Line} → FaultOrder A k l None → (k < most_frames) × FramedLine A l
   framed {l} (no_fault r known placed) =
       (r.few, record { written = line_written (well_formed l r.formed); under = readable_under r known placed })
 
-  pub no_fault_framed : (l : Line) → line_fault A k l ≡ none → (k < most_frames) × FramedLine A l
-  no_fault_framed l e = framed ((fault_order A k l none).0 e)
+  pub no_fault_framed : (l : Line) → line_fault A k l ≡ None → (k < most_frames) × FramedLine A l
+  no_fault_framed l e = framed ((fault_order A k l None).0 e)

@@ -2,12 +2,12 @@
 -- those before it that do not. The checks are tried one by one, and the first that gives a refusal
 -- decides.
 -- Assumes nothing.
+use Rattle.std.specs.Prelude.{Option, None, Some}
 use Prim.Native.Nat.{ℕ, ◌≤◌, ◌<◌}
 use mathlib.Core.Path.{◌≡◌, refl, subst, ◌∙◌}
 use mathlib.Core.Logic.{◌↔◌}
 use mathlib.Core.Bool.{true, false}
 use mathlib.Core.List.{[], ◌∷◌}
-use mathlib.Core.Option.{Option, none, some}
 use borrow.Author.Tests.{lt-ltb, le-ltb, le-leb, lt-leb, leb-true, leb-false, ltb-true, ltb-false}
 use lib.Dec.{ltb, leb, lit≤}
 use lib.ListN.{length}
@@ -28,19 +28,19 @@ pub record Readable (k : ℕ) (l : Line) : Type 0 where
 -- what the line with index k gives, and why
 pub data FaultOrder (A k : ℕ) (l : Line) : Option Refusal → Type 0 where
   -- number 5: the index is too large
-  index_large : most_frames ≤ k → FaultOrder A k l (some (TooLarge k))
+  index_large : most_frames ≤ k → FaultOrder A k l (Some (TooLarge k))
   -- number 2: the index is not, and the line is malformed
-  line_malformed : k < most_frames → malformed l ≡ true → FaultOrder A k l (some (MalformedFrame k))
+  line_malformed : k < most_frames → malformed l ≡ true → FaultOrder A k l (Some (MalformedFrame k))
   -- number 5: neither, and the trace is too long
-  trace_long : k < most_frames → malformed l ≡ false → most_events < length (frame_of l).trace → FaultOrder A k l (some (TooLarge k))
+  trace_long : k < most_frames → malformed l ≡ false → most_events < length (frame_of l).trace → FaultOrder A k l (Some (TooLarge k))
   -- number 3: none of these, and the trace has a code that is not below A
-  code_unknown : Readable k l → names_unknown A (frame_of l).trace ≡ true → FaultOrder A k l (some (UnknownActivity k))
+  code_unknown : Readable k l → names_unknown A (frame_of l).trace ≡ true → FaultOrder A k l (Some (UnknownActivity k))
   -- number 4: none of these, and the trace has its start or its end in a wrong place
   endpoint_misplaced_lem : Readable k l → names_unknown A (frame_of l).trace ≡ false → endpoint_misplaced (frame_of l).trace ≡ true
-      → FaultOrder A k l (some (MisplacedEndpoint k))
+      → FaultOrder A k l (Some (MisplacedEndpoint k))
   -- none of these
   no_fault : Readable k l → names_unknown A (frame_of l).trace ≡ false → endpoint_misplaced (frame_of l).trace ≡ false
-      → FaultOrder A k l none
+      → FaultOrder A k l None
 
 module _ (A k : ℕ) (l : Line) where
   -- of a line that can be read, the codes decide
@@ -100,7 +100,7 @@ pub record NamesLine (k : ℕ) (r : Refusal) : Type 0 where
   pub at_least : 2 ≤ number r
   pub at_most : number r ≤ 5
 
-pub names_line : {A k : ℕ} {l : Line} {r : Refusal} → FaultOrder A k l (some r) → NamesLine k r
+pub names_line : {A k : ℕ} {l : Line} {r : Refusal} → FaultOrder A k l (Some r) → NamesLine k r
 unfolding number value
 names_line (index_large many) = record { line = refl; at_least = lit≤ tt; at_most = lit≤ tt }
 names_line (line_malformed few t) = record { line = refl; at_least = lit≤ tt; at_most = lit≤ tt }

@@ -2,32 +2,31 @@
 -- the text has a byte, and no line has a fault; where all but the lines pass, the lines decide.
 -- To check a log A is enough, so the settings of that call pass when A is in its range.
 -- Assumes nothing.
+use Rattle.std.specs.Prelude.{Option, None, Some, Result, Ok, Err}
 use Prim.Native.Nat.{ℕ, ◌≤◌}
 use native.Mathlib.Omega.{arith}
 use mathlib.Core.Path.{◌≡◌, refl}
 use mathlib.Core.Logic.{◌↔◌}
 use mathlib.Core.Bool.{true, false, not}
 use mathlib.Core.List.{List, [], ◌∷◌}
-use mathlib.Core.Option.{Option, none, some}
 use borrow.Author.Tests.{eqb-false, ne_eqb, not-false}
 use lib.Dec.{eqb}
 use lib.ListN.{length}
 use Rattle.foundation.proofs.laws.Booleans.{impossible}
 use Rattle.limits.specs.declared.Refusal.{Refusal}
 use Rattle.limits.specs.declared.Refusal.TheVariants.{InvalidSetting, EmptyLog}
-use Rattle.limits.specs.Refusals.{first_refusal, Numbered, answer}
+use Rattle.limits.specs.Refusals.{first_refusal, Numbered, answered, answer_number, answer_value}
 use Rattle.limits.specs.Settings.{bound_in_range, bound_fault}
-use Rattle.event_log_spec.specs.declared.Checked.TheVariants.{Accepted, Refused}
-use Rattle.event_log_spec.specs.declared.Checked.{Checked}
-use Rattle.event_log_spec.specs.Checking.{empty_fault, text_fault, log_refusal, checked, checked_number, checked_value}
-use Rattle.limits.proofs.laws.FirstOf.{given_none, first_alone, first_none}
+use Rattle.event_log_spec.specs.declared.LogSize.{LogSize}
+use Rattle.event_log_spec.specs.Checking.{empty_fault, text_fault, log_refusal, size_of, checked}
 use Rattle.limits.proofs.laws.AnswerNumbers.{answer_numbered}
+use Rattle.limits.proofs.laws.FirstOf.{given_none, first_alone, first_none}
 
-pub bound_passes : (A : ℕ) → (bound_fault A ≡ none) ↔ (bound_in_range A ≡ true)
+pub bound_passes : (A : ℕ) → (bound_fault A ≡ None) ↔ (bound_in_range A ≡ true)
 unfolding bound_fault
 bound_passes A = (λ e. not-false (bound_in_range A) (given_none (not (bound_in_range A)) InvalidSetting e), λ e. rw e)
 
-some_byte_passes : (text : List ℕ) → (empty_fault text ≡ none) ↔ (1 ≤ length text)
+some_byte_passes : (text : List ℕ) → (empty_fault text ≡ None) ↔ (1 ≤ length text)
 unfolding empty_fault
 some_byte_passes text = (
   λ e. let h : length text ≡ 0 → ⊥ = eqb-false (length text) 0 (given_none (eqb (length text) 0) EmptyLog e) in omega arith,
@@ -36,56 +35,52 @@ some_byte_passes text = (
 
 -- nothing is refused
 pub record LogPasses (settings places : Option Refusal) (A : ℕ) (text : List ℕ) : Type 0 where
-  pub settings_pass : settings ≡ none
-  pub places_pass : places ≡ none
+  pub settings_pass : settings ≡ None
+  pub places_pass : places ≡ None
   pub some_byte : 1 ≤ length text
-  pub lines_pass : text_fault A text ≡ none
+  pub lines_pass : text_fault A text ≡ None
 
 module _ (A : ℕ) (text : List ℕ) where
-  pub lines_decide : 1 ≤ length text → log_refusal none none A text ≡ text_fault A text
+  pub lines_decide : 1 ≤ length text → log_refusal None None A text ≡ text_fault A text
   unfolding log_refusal first_refusal
   lines_decide some_byte = rw ((some_byte_passes text).1 some_byte) (first_alone (text_fault A text))
 
   module _ (settings places : Option Refusal) where
-    passes : log_refusal settings places A text ≡ none → LogPasses settings places A text
+    passes : log_refusal settings places A text ≡ None → LogPasses settings places A text
     unfolding log_refusal first_refusal
     passes e =
-        let text_checks = empty_fault text ∷ text_fault A text ∷ none ∷ [] in
-        let parts₁ = first_none settings (none ∷ places ∷ none ∷ none ∷ text_checks) e in
-        let parts₂ = first_none places (none ∷ none ∷ text_checks) parts₁.1 in
-        let parts₃ = first_none (empty_fault text) (text_fault A text ∷ none ∷ []) parts₂.1 in
+        let text_checks = empty_fault text ∷ text_fault A text ∷ None ∷ [] in
+        let parts₁ = first_none settings (None ∷ places ∷ None ∷ None ∷ text_checks) e in
+        let parts₂ = first_none places (None ∷ None ∷ text_checks) parts₁.1 in
+        let parts₃ = first_none (empty_fault text) (text_fault A text ∷ None ∷ []) parts₂.1 in
         record {
           settings_pass = parts₁.0;
           places_pass = parts₂.0;
           some_byte = (some_byte_passes text).0 parts₃.0;
-          lines_pass = (first_none (text_fault A text) (none ∷ []) parts₃.1).0;
+          lines_pass = (first_none (text_fault A text) (None ∷ []) parts₃.1).0;
         }
 
-    pub log_passes : (log_refusal settings places A text ≡ none) ↔ LogPasses settings places A text
+    pub log_passes : (log_refusal settings places A text ≡ None) ↔ LogPasses settings places A text
     log_passes = (passes, λ p. rw (p.settings_pass, p.places_pass, lines_decide p.some_byte) p.lines_pass)
 
 -- what checking a log answers, by the checks before those of its lines
 module _ (A : ℕ) (text : List ℕ) where
-  pub bound_refused : bound_in_range A ≡ false → checked A text ≡ Refused InvalidSetting
+  pub bound_refused : bound_in_range A ≡ false → checked A text ≡ Err InvalidSetting
   unfolding checked bound_fault log_refusal first_refusal
   bound_refused e = rw e
 
--- a check answers with a refusal exactly when it was given it, and accepts only where it was given
--- none
-pub answer_refused : (o : Option Refusal) (n N : ℕ) (r : Refusal) → (answer Refused o (Accepted n N) ≡ Refused r) ↔ (o ≡ some r)
-answer_refused none n N r = (λ e. impossible (cc), λ e. impossible (cc))
-answer_refused (some s) n N r = (λ e. cc, λ e. cc)
+  pub checked_numbered : (r : Result LogSize Refusal) → r ≡ checked A text
+      → Numbered (log_refusal (bound_fault A) None A text) (answer_number r) (answer_value r)
+  unfolding checked
+  checked_numbered r e = rw e (answer_numbered (log_refusal (bound_fault A) None A text) (size_of text))
 
-pub answer_accepted : (o : Option Refusal) (n N m M : ℕ) → answer Refused o (Accepted n N) ≡ Accepted m M
-    → (o ≡ none) × (Accepted n N ≡ Accepted m M)
-answer_accepted none n N m M e = (refl, e)
-answer_accepted (some s) n N m M e = impossible (cc)
+-- a call answers with a refusal exactly when it was given it, and with a result only where it was
+-- given none
+module _ {X : Type 0} where
+  pub answer_refused : (o : Option Refusal) (result : X) (r : Refusal) → (answered o result ≡ Err r) ↔ (o ≡ Some r)
+  answer_refused None result r = (λ e. impossible (cc), λ e. impossible (cc))
+  answer_refused (Some s) result r = (λ e. cc, λ e. cc)
 
--- what is answered as defined has the number and the value of the refusal
-pub checked_numbered : (A : ℕ) (text : List ℕ) {r : Checked} → r ≡ checked A text
-    → (r ≡ checked A text) × Numbered (log_refusal (bound_fault A) none A text) (checked_number r) (checked_value r)
-unfolding checked checked_number checked_value
-checked_numbered A text e = (
-  e,
-  rw e (answer_numbered Refused checked_number checked_value (λ r. refl) (λ r. refl) (log_refusal (bound_fault A) none A text) _ refl refl),
-)
+  pub answer_accepted : (o : Option Refusal) (result other : X) → answered o result ≡ Ok other → (o ≡ None) × (result ≡ other)
+  answer_accepted None result other e = (refl, cc)
+  answer_accepted (Some s) result other e = impossible (cc)

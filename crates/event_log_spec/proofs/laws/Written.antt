@@ -3,24 +3,24 @@
 -- such frames. A text without a fault is its lines one after the other, each of them a frame's; and
 -- the lines of a written log are its frames', none of which has a fault.
 -- Assumes nothing.
+use Rattle.std.specs.Prelude.{None, Ok}
 use Prim.Native.Nat.{ℕ, suc, ◌+◌, ◌≤◌}
 use native.Mathlib.Omega.{arith}
 use mathlib.Core.Path.{◌≡◌, refl, sym, ap, ap₂, ◌∙◌}
 use mathlib.Core.Logic.{◌↔◌}
 use mathlib.Core.Bool.{true, and-eq-true_iff}
 use mathlib.Core.List.{List, [], ◌∷◌, ◌++◌, map, flat_map}
-use mathlib.Core.Option.{none}
 use borrow.Author.Tests.{leb-true}
 use lib.Dec.{leb, lit≤}
 use lib.ListN.{length, length-map}
 use Rattle.foundation.specs.Lists.{Each, each_nil, each_cons}
 use Rattle.foundation.proofs.laws.Each.{each_imply, each_map}
 use Rattle.limits.specs.Settings.{most_activities, bound_in_range, bound_fault}
-use Rattle.event_log_spec.specs.declared.Checked.TheVariants.{Accepted}
+use Rattle.event_log_spec.specs.declared.LogSize.{LogSize}
 use Rattle.hex_digits.specs.Digits.{write_hex}
 use Rattle.event_log_spec.specs.Frames.{Frame, FrameUnder, WrittenLog, most_frames, write_frame, total_cases}
 use Rattle.event_log_spec.specs.Lines.{Line, lines, frame_of, frames_of}
-use Rattle.event_log_spec.specs.Checking.{line_fault, lines_fault, text_fault, log_refusal, checked}
+use Rattle.event_log_spec.specs.Checking.{line_fault, lines_fault, text_fault, log_refusal, log_size, size_of, checked}
 use Rattle.event_log_spec.proofs.laws.Lines.{lines_step}
 use Rattle.limits.proofs.laws.FirstOf.{first_none}
 use Rattle.event_log_spec.proofs.laws.LogChecks.{log_passes, bound_passes, lines_decide, answer_accepted}
@@ -36,7 +36,7 @@ bound_narrow : (A : ℕ) → bound_in_range A ≡ true → A ≤ 256
 bound_narrow A e = omega (arith, bound_most A e)
 
 module _ (A : ℕ) where
-  lines_framed : (k : ℕ) (ls : List Line) → k ≤ most_frames → lines_fault A k ls ≡ none
+  lines_framed : (k : ℕ) (ls : List Line) → k ≤ most_frames → lines_fault A k ls ≡ None
       → (k + length ls ≤ most_frames) × Each (FramedLine A) ls
   unfolding lines_fault
   lines_framed k [] few e = (omega arith, each_nil)
@@ -53,7 +53,7 @@ module _ (A : ℕ) where
       ap₂ ◌++◌ (ap line_text here.written ∙ sym (written_text (frame_of l))) (framed_text later)
 
   frames_no_fault : (k : ℕ) {frames : List Frame} → A ≤ 256 → k + length frames ≤ most_frames → Each (FrameUnder A) frames
-      → lines_fault A k (map frame_line frames) ≡ none
+      → lines_fault A k (map frame_line frames) ≡ None
   unfolding lines_fault
   frames_no_fault k narrow few each_nil = refl
   frames_no_fault k narrow few (each_cons here later) =
@@ -70,7 +70,7 @@ pub record AcceptedAs (A : ℕ) (text : List ℕ) (n N : ℕ) : Type 0 where
   pub number_of_frames : n ≡ length (frames_of text)
   pub cases : N ≡ total_cases (frames_of text)
 
-pub text_written : (A : ℕ) (text : List ℕ) → 1 ≤ length text → text_fault A text ≡ none → WrittenLog A (frames_of text) text
+pub text_written : (A : ℕ) (text : List ℕ) → 1 ≤ length text → text_fault A text ≡ None → WrittenLog A (frames_of text) text
 unfolding frames_of text_fault
 text_written A text some_byte sound =
     let framed = lines_framed A 0 (lines text) (lit≤ tt) sound in
@@ -82,16 +82,16 @@ text_written A text some_byte sound =
       in_order = sym (text_of_lines text) ∙ framed_text A framed.1;
     }
 
-pub accepted_written : (A : ℕ) (text : List ℕ) (n N : ℕ) → checked A text ≡ Accepted n N → AcceptedAs A text n N
+pub accepted_written : (A : ℕ) (text : List ℕ) (n N : ℕ) → checked A text ≡ Ok (log_size n N) → AcceptedAs A text n N
 unfolding checked
 accepted_written A text n N e =
-    let parts = answer_accepted (log_refusal (bound_fault A) none A text) (length (frames_of text)) (total_cases (frames_of text)) n N e in
-    let p = (log_passes A text (bound_fault A) none).0 parts.0 in
+    let parts = answer_accepted (log_refusal (bound_fault A) None A text) (size_of text) (log_size n N) e in
+    let p = (log_passes A text (bound_fault A) None).0 parts.0 in
     record {
       in_range = (bound_passes A).0 p.settings_pass;
       written = text_written A text p.some_byte p.lines_pass;
-      number_of_frames = cc parts.1;
-      cases = cc parts.1;
+      number_of_frames = sym (ap (λ (s : LogSize). s.frames) parts.1);
+      cases = sym (ap (λ (s : LogSize). s.cases) parts.1);
     }
 
 frames_some_byte : (frames : List Frame) → 1 ≤ length frames → 1 ≤ length (flat_map write_frame frames)
@@ -104,7 +104,7 @@ module _ (A : ℕ) (in_range : bound_in_range A ≡ true) {frames : List Frame} 
   unfolding frames_of
   written_frames = rw (log.in_order, lines_written frames) (frames_back A (bound_narrow A in_range) log.each)
 
-  written_sound : text_fault A text ≡ none
+  written_sound : text_fault A text ≡ None
   unfolding text_fault
   written_sound =
       let few : 0 + length frames ≤ most_frames = omega (arith, log.few_frames) in
@@ -113,17 +113,17 @@ module _ (A : ℕ) (in_range : bound_in_range A ≡ true) {frames : List Frame} 
   written_some_byte : 1 ≤ length text
   written_some_byte = rw log.in_order (frames_some_byte frames log.some_frame)
 
-  pub written_accepted : checked A text ≡ Accepted (length frames) (total_cases frames)
+  pub written_accepted : checked A text ≡ Ok (log_size (length frames) (total_cases frames))
   unfolding checked
   written_accepted = rw ((bound_passes A).1 in_range, lines_decide A text written_some_byte, written_sound, written_frames)
 
 -- the answer says just that
-pub accepted_as : (A : ℕ) (text : List ℕ) (n N : ℕ) → (checked A text ≡ Accepted n N) ↔ AcceptedAs A text n N
+pub accepted_as : (A : ℕ) (text : List ℕ) (n N : ℕ) → (checked A text ≡ Ok (log_size n N)) ↔ AcceptedAs A text n N
 accepted_as A text n N =
     (accepted_written A text n N, λ a. rw (a.number_of_frames, a.cases) (written_accepted A a.in_range a.written))
 
 module _ (A : ℕ) (text : List ℕ) (in_range : bound_in_range A ≡ true) where
-  pub accepted_exactly : ((n : ℕ) × (N : ℕ) × (checked A text ≡ Accepted n N)) ↔ ((frames : List Frame) × WrittenLog A frames text)
+  pub accepted_exactly : ((n : ℕ) × (N : ℕ) × (checked A text ≡ Ok (log_size n N))) ↔ ((frames : List Frame) × WrittenLog A frames text)
   accepted_exactly = (
     λ a. (frames_of text, (accepted_written A text a.0 a.1 a.2).written),
     λ w. (length w.0, total_cases w.0, written_accepted A in_range w.1),

@@ -2,83 +2,88 @@
 -- is their number, they can be taken from its front, and to know whether there is a cover of what is
 -- left it is enough to look for one among them.
 -- Assumes nothing.
-use Prim.Native.Nat.{ℕ, ◌-◌, ◌≤◌, ◌<◌}
-use native.Mathlib.Nat.{sub-zero}
+use Rattle.std.specs.Prelude.{None, Some}
+use Prim.Native.Nat.{ℕ, ◌≤◌, ◌<◌}
 use native.Mathlib.Omega.{arith}
 use mathlib.Core.Path.{◌≡◌, refl, sym, ap, ap₂, ◌∙◌}
 use mathlib.Core.Logic.{◌↔◌}
 use mathlib.Core.Bool.{Bool, true}
 use mathlib.Core.List.{List}
-use borrow.Author.Tests.{le-leb, lt-leb, leb-true, leb-false}
+use borrow.Author.Tests.{le-leb, lt-leb, leb-true}
 use lib.Dec.{leb}
-use lib.ListN.{length, take, drop, length-append}
+use lib.ListN.{length, take, drop, get_or, length-append}
 use lib.Seq.{take_all}
 use Rattle.foundation.specs.Buffers.{overwrite}
+use Rattle.foundation.specs.Lists.{keep}
 use Rattle.foundation.proofs.laws.Booleans.{by_test}
 use Rattle.foundation.proofs.laws.Buffers.{take_overwritten}
-use Rattle.reduction_spec.specs.Cover.{Listable, Cover, parts_of}
+use Rattle.reduction_spec.specs.Cover.{Listable, Cover, usable, parts_of}
 use Rattle.reduction_spec.proofs.laws.CoverParts.{parts_listable, cover_parts}
-use Rattle.exact_cover.specs.declared.Gathered.{Gathered}
-use Rattle.exact_cover.specs.declared.Gathered.TheVariants.{All, TooMany}
 use Rattle.exact_cover.specs.Gathering.{gathered, gathered_after}
+use Rattle.exact_cover.proofs.laws.KeptWords.{KeptSo, none_kept, drop_next, keep_next, no_room, all_kept, all_fit}
 
-module _ (words : List ℕ) (whole left : ℕ) where
-  -- the answer, and what the buffer holds, where it takes all of them and where it does not
-  pub gathered_all : (room : ℕ) → length (parts_of words whole left) ≤ room → All (length (parts_of words whole left)) ≡ gathered words whole left room
+module _ {words : List ℕ} (whole left : ℕ) {before kept : List ℕ} {count at : ℕ} (k : KeptSo (usable whole left) words before kept count at) where
+  -- the answer, and what the buffer holds, where it takes all of them
+  module _ (end : length words ≤ at) where
+    pub all_gathered : Some count ≡ gathered words whole left (length before)
+    unfolding gathered parts_of
+    all_gathered = ap Some (all_kept k end).0 ∙ rw (le-leb (length (keep (usable whole left) words)) (length before) (all_fit k end)) refl
+
+    pub all_held : kept ≡ gathered_after words whole left before
+    unfolding gathered_after parts_of
+    all_held =
+        (all_kept k end).1
+        ∙ sym (ap (λ (front : List ℕ). overwrite front before) (take_all (length before) (keep (usable whole left) words) (all_fit k end)))
+
+  -- and where there is no room for the next of them
+  module _ (l : at < length words) (e : usable whole left (get_or words at 0) ≡ true) (full : length kept ≤ count) where
+    pub some_gathered : None ≡ gathered words whole left (length before)
+    unfolding gathered parts_of
+    some_gathered = rw (lt-leb (length (keep (usable whole left) words)) (length before) (no_room k l e full).0) refl
+
+    pub some_held : kept ≡ gathered_after words whole left before
+    unfolding gathered_after parts_of
+    some_held = (no_room k l e full).1
+
+-- what a loop over the words needs
+pub ruleset gathering = (none_kept, drop_next, keep_next, all_gathered, all_held, some_gathered, some_held)
+
+-- what is known where the answer is a number
+module _ (words : List ℕ) (whole left : ℕ) (before : List ℕ) {after : List ℕ} {count : ℕ} (told : Some count ≡ gathered words whole left (length before))
+    (held : after ≡ gathered_after words whole left before) where
+  -- the buffer takes all of them, and that is how many they are
+  counted : (length (parts_of words whole left) ≤ length before) × (count ≡ length (parts_of words whole left))
   unfolding gathered
-  gathered_all room enough = rw (le-leb (length (parts_of words whole left)) room enough) refl
+  counted =
+      by_test
+      (leb (length (parts_of words whole left)) (length before))
+      (λ e. (leb-true (length (parts_of words whole left)) (length before) e, let same = rw e at told in cc))
+      (λ e. let none = rw e at told in cc)
 
-  pub gathered_many : (room : ℕ) → room < length (parts_of words whole left) → TooMany ≡ gathered words whole left room
-  unfolding gathered
-  gathered_many room short = rw (lt-leb (length (parts_of words whole left)) room short) refl
-
-  pub held_all : (before : List ℕ) → length (parts_of words whole left) ≤ length before
-      → overwrite (parts_of words whole left) before ≡ gathered_after words whole left before
+  written : after ≡ overwrite (parts_of words whole left) before
   unfolding gathered_after
-  held_all before enough =
-      sym (ap (λ (front : List ℕ). overwrite front before) (take_all (length before) (parts_of words whole left) enough))
+  written = held ∙ ap (λ (front : List ℕ). overwrite front before) (take_all (length before) (parts_of words whole left) counted.0)
 
-  -- what is known where the answer is a number
-  module _ (before : List ℕ) {after : List ℕ} {answer : Gathered}
-      (told : (answer ≡ gathered words whole left (length before)) × (after ≡ gathered_after words whole left before))
-      (count : ℕ) (all : answer ≡ All count) where
-    -- the buffer takes all of them, and that is how many they are
-    counted : (length (parts_of words whole left) ≤ length before) × (count ≡ length (parts_of words whole left))
-    counted =
-        by_test
-        (leb (length (parts_of words whole left)) (length before))
-        (λ e.
-        let enough = leb-true (length (parts_of words whole left)) (length before) e in
-        let same = gathered_all (length before) enough in
-        (enough, cc))
-        (λ e.
-        let short = gathered_many (length before) (leb-false (length (parts_of words whole left)) (length before) e) in
-        let z : ◌≡◌ {A = ℕ} 0 1 = cc in
-        absurd (omega arith))
+  pub gathered_room : count ≤ length after
+  gathered_room =
+      omega (
+        arith,
+        counted.1,
+        ap length written,
+        length-append (parts_of words whole left) (drop (length (parts_of words whole left)) before),
+      )
 
-    written : after ≡ overwrite (parts_of words whole left) before
-    written = told.1 ∙ sym (held_all before counted.0)
+  front_parts : take count after ≡ parts_of words whole left
+  front_parts =
+      ap₂ (λ (n : ℕ) (buffer : List ℕ). take n buffer) counted.1 written
+      ∙ take_overwritten before (parts_of words whole left)
 
-    pub gathered_room : count ≤ length after
-    gathered_room =
-        omega (
-          arith,
-          counted.1,
-          ap length written,
-          length-append (parts_of words whole left) (drop (length (parts_of words whole left)) before),
-        )
+  -- its front is a list of places where the words are
+  pub gathered_listable : Listable words → Listable (take count after)
+  gathered_listable places = rw front_parts (parts_listable words whole left places)
 
-    front_parts : take (count - 0) after ≡ parts_of words whole left
-    front_parts =
-        ap₂ (λ (n : ℕ) (buffer : List ℕ). take n buffer) (sub-zero count ∙ counted.1) written
-        ∙ take_overwritten before (parts_of words whole left)
-
-    -- its front is a list of places where the words are
-    pub gathered_listable : Listable words → Listable (take (count - 0) after)
-    gathered_listable places = rw front_parts (parts_listable words whole left places)
-
-    -- a search over its front says whether there is a cover
-    pub found_gathered : {found : Bool} → (found ≡ true) ↔ Cover (take (count - 0) after) whole left → (found ≡ true) ↔ Cover words whole left
-    found_gathered answers =
-        let right = rw front_parts at answers in
-        (λ e. (cover_parts left).0 (right.0 e), λ cover. right.1 ((cover_parts left).1 cover))
+  -- a search over its front says whether there is a cover
+  pub found_gathered : {found : Bool} → (found ≡ true) ↔ Cover (take count after) whole left → (found ≡ true) ↔ Cover words whole left
+  found_gathered answers =
+      let right = rw front_parts at answers in
+      (λ e. (cover_parts left).0 (right.0 e), λ cover. right.1 ((cover_parts left).1 cover))

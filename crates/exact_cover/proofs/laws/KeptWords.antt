@@ -16,7 +16,6 @@ use Rattle.foundation.proofs.laws.Lists.{keep_append}
 
 -- those before an index stand in front of the buffer, and were counted
 pub record KeptSo (test : ℕ → Bool) (words before kept : List ℕ) (count at : ℕ) : Type 0 where
-  pub reached : at ≤ length words
   pub room : length kept ≡ length before
   pub counted : count ≡ length (keep test (take at words))
   pub few : count ≤ at
@@ -24,7 +23,7 @@ pub record KeptSo (test : ℕ → Bool) (words before kept : List ℕ) (count at
 
 module _ {test : ℕ → Bool} {words before : List ℕ} where
   pub none_kept : KeptSo test words before before 0 0
-  none_kept = record { reached = omega arith; room = refl; counted = refl; few = omega arith; written = refl }
+  none_kept = record { room = refl; counted = refl; few = omega arith; written = refl }
 
   module _ {kept : List ℕ} {count at : ℕ} (k : KeptSo test words before kept count at) (l : at < length words) where
     next : keep test (take (at + 1) words) ≡ keep test (take at words) ++ keep test (get_or words at 0 ∷ [])
@@ -37,7 +36,6 @@ module _ {test : ℕ → Bool} {words before : List ℕ} where
     drop_next e =
         let same : keep test (take (at + 1) words) ≡ keep test (take at words) = next ∙ rw e (append-nil (keep test (take at words))) in
         record {
-          reached = omega (arith, l);
           room = k.room;
           counted = k.counted ∙ sym (ap length same);
           few = omega (arith, k.few);
@@ -56,7 +54,6 @@ module _ {test : ℕ → Bool} {words before : List ℕ} where
       keep_next room =
           let w = get_or words at 0 in
           record {
-            reached = omega (arith, l);
             room = length-set kept count w ∙ k.room;
             counted = sym longer;
             few = omega (arith, k.few);

@@ -2,6 +2,7 @@
 -- numbers in digits undo each other. The numbers go by the number of digits: the first digit is the
 -- quotient by the power of 16 that the others stay below.
 -- Assumes nothing.
+use Rattle.std.specs.Prelude.{Option, None, Some, is_some, unwrap_or}
 use Prim.Native.Nat.{ℕ, zero, suc, ◌+◌, ◌-◌, ◌*◌, ◌/◌, ◌%◌, ◌^◌, ◌≤◌, ◌<◌}
 use native.Mathlib.Nat.{add-zero, add_comm, mul_comm, mul_assoc, mul-le-mul_right, pow-suc, one-le-pow}
 use native.Mathlib.Nat.{add-mul-div_right, mul-add-div_right, div-eq_of_lt, div-lt_iff_lt-mul}
@@ -16,19 +17,17 @@ use lib.ListN.{length}
 use Rattle.foundation.specs.Lists.{Each, each_nil, each_cons}
 use Rattle.foundation.proofs.laws.Booleans.{by_test}
 use Rattle.foundation.proofs.laws.Lists.{each_head, each_tail}
-use Rattle.hex_digits.specs.declared.Digit.{Digit}
-use Rattle.hex_digits.specs.declared.Digit.TheVariants.{Value, NonDigit}
-use Rattle.hex_digits.specs.Digits.{digit_of, is_value, is_digit, value_in, read_hex, digit_byte, write_hex}
+use Rattle.hex_digits.specs.Digits.{digit_of, is_digit, digit_value, read_hex, digit_byte, write_hex}
 
 -- the byte is the one that writes its value, which is below 16
 pub record Writes (byte : ℕ) : Type 0 where
-  pub small : value_in (digit_of byte) < 16
-  pub back : digit_byte (value_in (digit_of byte)) ≡ byte
+  pub small : digit_value byte < 16
+  pub back : digit_byte (digit_value byte) ≡ byte
 
 between : (a b n : ℕ) → leb a n && leb n b ≡ true → (a ≤ n) × (n ≤ b)
 between a b n e = let t = (and-eq-true_iff (leb a n) (leb n b)).0 e in (leb-true a n t.0, leb-true n b t.1)
 
-writes : (byte v : ℕ) → digit_of byte ≡ Value v → v < 16 → digit_byte v ≡ byte → Writes byte
+writes : (byte v : ℕ) → digit_of byte ≡ Some v → v < 16 → digit_byte v ≡ byte → Writes byte
 writes byte v e small back = record { small = rw e small; back = rw e back }
 
 -- 0 to 9
@@ -53,11 +52,11 @@ digit_writes byte e =
     (numeral_writes byte)
     (λ f. by_test (leb 65 byte && leb byte 70) (letter_writes byte f) (λ g. absurd (false≢true (rw (f, g) at e))))
 
-numeral_of : (v : ℕ) → v < 10 → digit_of (48 + v) ≡ Value v
+numeral_of : (v : ℕ) → v < 10 → digit_of (48 + v) ≡ Some v
 unfolding digit_of
-numeral_of v small = rw (le-leb 48 (48 + v) (omega arith), le-leb (48 + v) 57 (omega arith)) (ap Value (omega arith))
+numeral_of v small = rw (le-leb 48 (48 + v) (omega arith), le-leb (48 + v) 57 (omega arith)) (ap Some (omega arith))
 
-letter_of : (v : ℕ) → 10 ≤ v → v < 16 → digit_of (55 + v) ≡ Value v
+letter_of : (v : ℕ) → 10 ≤ v → v < 16 → digit_of (55 + v) ≡ Some v
 unfolding digit_of
 letter_of v large small =
     rw (
@@ -65,9 +64,9 @@ letter_of v large small =
       lt-leb (55 + v) 57 (omega arith),
       le-leb 65 (55 + v) (omega arith),
       le-leb (55 + v) 70 (omega arith),
-    ) (ap Value (omega arith))
+    ) (ap Some (omega arith))
 
-pub digit_of_lem : (v : ℕ) → v < 16 → digit_of (digit_byte v) ≡ Value v
+pub digit_of_lem : (v : ℕ) → v < 16 → digit_of (digit_byte v) ≡ Some v
 unfolding digit_byte
 digit_of_lem v small =
     by_test
@@ -84,15 +83,15 @@ abbrev pub EachDigit : List ℕ → Type 0
 EachDigit bytes = Each (λ (byte : ℕ). is_digit byte ≡ true) bytes
 
 -- a byte that is no digit counts as 0
-pub value_small : (byte : ℕ) → value_in (digit_of byte) < 16
+pub value_small : (byte : ℕ) → digit_value byte < 16
 unfolding is_digit
 value_small byte = go (digit_of byte) refl
   where
-    go : (d : Digit) → digit_of byte ≡ d → value_in d < 16
-    go (Value v) e = rw e at (digit_writes byte (ap is_value e)).small
-    go NonDigit e = lit< tt
+    go : (d : Option ℕ) → digit_of byte ≡ d → unwrap_or d 0 < 16
+    go (Some v) e = rw e at (digit_writes byte (ap is_some e)).small
+    go None e = lit< tt
 
-pub digit_below : (byte v : ℕ) → digit_of byte ≡ Value v → v < 16
+pub digit_below : (byte v : ℕ) → digit_of byte ≡ Some v → v < 16
 digit_below byte v e = rw e at (value_small byte)
 
 power_positive : (k : ℕ) → 0 < 16 ^ k
@@ -144,14 +143,14 @@ read_write (suc k) n small =
 write_rest : (byte : ℕ) (bytes : List ℕ) → write_hex (length bytes) (read_hex (byte ∷ bytes)) ≡ write_hex (length bytes) (read_hex bytes)
 unfolding read_hex
 write_rest byte bytes =
-    let v = value_in (digit_of byte) in
+    let v = digit_value byte in
     rw (add_comm (v * 16 ^ length bytes) (read_hex bytes)) (write_above (length bytes) v (read_hex bytes))
 
 pub write_read : (bytes : List ℕ) → EachDigit bytes → write_hex (length bytes) (read_hex bytes) ≡ bytes
 unfolding read_hex write_hex
 write_read [] digits = refl
 write_read (byte ∷ bytes) digits =
-    let v = value_in (digit_of byte) in
+    let v = digit_value byte in
     let first = digit_writes byte (each_head digits) in
     rw (
       write_rest byte bytes,

@@ -1,6 +1,6 @@
 -- A number's digits, written one after the other from the back of a slice: each is the remainder by
--- 16 of what is left of the number, which is then divided by 16. Where the front is reached, the
--- slice holds the number's lowest digits, the highest first.
+-- 16 of what is left of the number, which is then divided by 16. From where they stand to the back,
+-- the slice holds the number's lowest digits, the highest first.
 -- Assumes nothing.
 use Prim.Native.Nat.{ℕ, suc, ◌+◌, ◌-◌, ◌/◌, ◌%◌, ◌^◌, ◌≤◌, ◌<◌}
 use native.Mathlib.Nat.{div-div-eq-div-mul, div-one, pow-suc}
@@ -60,3 +60,5 @@ module _ {number : ℕ} {before : List ℕ} where
         let front : at ≡ 0 = omega arith in
         let whole : w.done ≡ length before = omega (arith, w.parts) in
         ap (λ (n : ℕ). drop n text) (sym front) ∙ w.digits ∙ ap (λ (k : ℕ). write_hex k number) whole
+
+pub ruleset digits_written = (none_written, one_written)

@@ -2,57 +2,55 @@
 -- pair, and answers what the definitions say of the line that begins there: by induction on the
 -- bytes that are left, two at a time.
 -- Assumes nothing.
+use Rattle.std.specs.Prelude.{Option, None, Some, option_and_then}
 use Prim.Native.Nat.{ℕ, suc, ◌+◌, ◌-◌, ◌%◌, ◌≤◌, ◌<◌}
-use mathlib.Core.Path.{◌≡◌, refl, sym}
+use mathlib.Core.Path.{◌≡◌, refl, sym, ◌∙◌}
 use mathlib.Core.Bool.{Bool, true, false, cond, ◌||◌, and-eq-true_iff, and-true, and-false, or-false, or_assoc}
 use mathlib.Core.List.{List, [], ◌∷◌}
 use native.Mathlib.Nat.{add-zero}
 use native.Mathlib.Omega.{arith}
 use borrow.Author.Tests.{eqb-true, eqb-false, ne_eqb}
 use lib.Dec.{eqb, leb}
-use lib.ListN.{length, take, drop, get_or, drop_of_length-le}
-use lib.Seq.{drop-cons}
+use lib.ListN.{length, take, drop, get_or, length-drop}
 use Rattle.foundation.specs.Lists.{all, any, foldl}
 use Rattle.foundation.proofs.laws.Booleans.{by_test}
 use Rattle.log_lines.specs.declared.Activities.{Activities}
-use Rattle.log_lines.specs.declared.Activities.TheVariants.{Read, Malformed}
-use Rattle.hex_digits.specs.declared.Number.{Number}
-use Rattle.hex_digits.specs.declared.Number.TheVariants.{Value, NonDigits}
 use Rattle.log_lines.specs.declared.Phase.{Phase}
 use Rattle.log_lines.specs.declared.Phase.TheVariants.{Before}
 use Rattle.hex_digits.specs.Digits.{is_digit, read_hex, number_in, line_feed}
 use Rattle.event_log_spec.specs.Lines.{Line, first_line, read_pairs}
 use Rattle.event_log_spec.specs.Checking.{names_unknown}
-use Rattle.log_lines.specs.Reading.{next_phase, incomplete, in_pairs, activities_in}
+use Rattle.log_lines.specs.Reading.{next_phase, incomplete, in_pairs, activities, activities_in}
 use Rattle.event_log_spec.proofs.laws.Lines.{with_byte, first_none, first_feed, first_byte}
 use Rattle.event_log_spec.proofs.laws.TextLines.{digit_no_feed}
 use Rattle.hex_digits.proofs.laws.NumberLaws.{digits_number, others_no_number}
 use Rattle.log_lines.proofs.laws.Phases.{phases_misplaced}
 
--- on a number go on, else stop
-abbrev pub after_pair : Number → (ℕ → Activities) → Activities
-after_pair (Value code) go = go code
-after_pair NonDigits go = Malformed
+-- the line feed stands at `at`
+abbrev pub ended : ℕ → Phase → Bool → Option Activities
+ended at phase unknown = Some (activities at unknown (incomplete phase))
 
-unfoldable pub scan : ℕ → ℕ → Phase → Bool → List ℕ → Activities
-scan A at phase unknown [] = Malformed
-scan A at phase unknown (first ∷ []) = cond (eqb first line_feed) (Read at unknown (incomplete phase)) Malformed
+unfoldable pub scan : ℕ → ℕ → Phase → Bool → List ℕ → Option Activities
+scan A at phase unknown [] = None
+scan A at phase unknown (first ∷ []) = cond (eqb first line_feed) (ended at phase unknown) None
 scan A at phase unknown (first ∷ (second ∷ bytes)) =
     cond
     (eqb first line_feed)
-    (Read at unknown (incomplete phase))
-    (after_pair (number_in (first ∷ second ∷ [])) (λ (code : ℕ). scan A (at + 2) (next_phase phase code) (unknown || leb A code) bytes))
+    (ended at phase unknown)
+    (option_and_then
+    (λ (code : ℕ). scan A (at + 2) (next_phase phase code) (unknown || leb A code) bytes)
+    (number_in (first ∷ second ∷ [])))
 
 -- what the definitions say where a pass stands, at `at`, having read some events
-abbrev reading : ℕ → ℕ → Phase → Bool → Line → Activities
+abbrev reading : ℕ → ℕ → Phase → Bool → Line → Option Activities
 reading A at phase unknown l =
     cond
     (in_pairs l)
-    (Read
+    (ended
     (at + length l.bytes)
-    (unknown || any (leb A) (read_pairs l.bytes))
-    (incomplete (foldl next_phase phase (read_pairs l.bytes))))
-    Malformed
+    (foldl next_phase phase (read_pairs l.bytes))
+    (unknown || any (leb A) (read_pairs l.bytes)))
+    None
 
 even : (n : ℕ) → suc (suc n) % 2 ≡ n % 2
 even n = omega arith
@@ -62,18 +60,18 @@ further at n = omega arith
 
 module _ (A at : ℕ) (phase : Phase) (unknown : Bool) where
   -- at the line feed
-  at_feed : reading A at phase unknown (record { bytes = []; ended = true }) ≡ Read at unknown (incomplete phase)
+  at_feed : reading A at phase unknown (record { bytes = []; ended = true }) ≡ ended at phase unknown
   unfolding in_pairs read_pairs
   at_feed = rw (add-zero at, or-false unknown)
 
   -- at a byte that is no digit
-  at_other : (byte : ℕ) (l : Line) → is_digit byte ≡ false → reading A at phase unknown (with_byte byte l) ≡ Malformed
+  at_other : (byte : ℕ) (l : Line) → is_digit byte ≡ false → reading A at phase unknown (with_byte byte l) ≡ None
   unfolding in_pairs
   at_other byte l e = rw (e, and-false)
 
   -- at a digit with another byte after it that is none
   after_digit : (first second : ℕ) (bytes : List ℕ) → is_digit second ≡ false
-      → reading A at phase unknown (with_byte first (first_line (second ∷ bytes))) ≡ Malformed
+      → reading A at phase unknown (with_byte first (first_line (second ∷ bytes))) ≡ None
   unfolding in_pairs
   after_digit first second bytes e =
       by_test
@@ -89,23 +87,23 @@ module _ (A at : ℕ) (phase : Phase) (unknown : Bool) where
   over_pair first second l e f = rw (e, f, even (length l.bytes), further at (length l.bytes), or_assoc)
 
   -- at the end of the text
-  at_nothing : Malformed ≡ reading A at phase unknown (first_line [])
+  at_nothing : None ≡ reading A at phase unknown (first_line [])
   unfolding in_pairs
   at_nothing = rw first_none
 
   -- at its last byte
-  at_end : (first : ℕ) → eqb first line_feed ≡ false → Malformed ≡ reading A at phase unknown (first_line (first ∷ []))
+  at_end : (first : ℕ) → eqb first line_feed ≡ false → None ≡ reading A at phase unknown (first_line (first ∷ []))
   unfolding in_pairs
   at_end first e = rw (first_byte first [] (eqb-false first line_feed e), first_none)
 
   -- at the line feed of the text
   at_first_feed : (first : ℕ) (bytes : List ℕ) → eqb first line_feed ≡ true
-      → Read at unknown (incomplete phase) ≡ reading A at phase unknown (first_line (first ∷ bytes))
+      → ended at phase unknown ≡ reading A at phase unknown (first_line (first ∷ bytes))
   at_first_feed first bytes e = rw (eqb-true first line_feed e, first_feed bytes, at_feed)
 
   -- at two bytes of which one is no digit
   at_non_digits : (first second : ℕ) (bytes : List ℕ) → eqb first line_feed ≡ false → all is_digit (first ∷ second ∷ []) ≡ false
-      → Malformed ≡ reading A at phase unknown (first_line (first ∷ second ∷ bytes))
+      → None ≡ reading A at phase unknown (first_line (first ∷ second ∷ bytes))
   at_non_digits first second bytes e f =
       rw (first_byte first (second ∷ bytes) (eqb-false first line_feed e))
       (by_test
@@ -148,44 +146,69 @@ pub scan_first : (A from : ℕ) (bytes : List ℕ) → scan A from Before false 
 unfolding activities_in names_unknown
 scan_first A from bytes = rw (← phases_misplaced) (scan_reads A from Before false bytes)
 
--- a line feed ends a pass, whatever follows it
-feed_ends : (A at : ℕ) (phase : Phase) (unknown : Bool) (bytes : List ℕ)
-    → scan A at phase unknown (line_feed ∷ bytes) ≡ Read at unknown (incomplete phase)
-unfolding scan
-feed_ends A at phase unknown [] = refl
-feed_ends A at phase unknown (second ∷ bytes) = refl
-
-two_more : (n : ℕ) → n + 2 ≡ suc (suc n)
-two_more n = omega arith
-
--- a pass over a text, from an index
-module _ (A : ℕ) (text : List ℕ) (at : ℕ) (phase : Phase) (unknown : Bool) where
-  pub scan_end : length text ≤ at → scan A at phase unknown (drop at text) ≡ Malformed
+-- a pass by what it begins with
+module _ (A at : ℕ) (phase : Phase) (unknown : Bool) where
+  -- two bytes that are no line feed
+  scan_pair : (rest : List ℕ) → 2 ≤ length rest → (get_or rest 0 0 ≡ line_feed → ⊥)
+      → scan A at phase unknown rest
+      ≡ option_and_then
+      (λ (code : ℕ). scan A (at + 2) (next_phase phase code) (unknown || leb A code) (drop 2 rest))
+      (number_in (take 2 rest))
   unfolding scan
-  scan_end h = rw (drop_of_length-le text h)
+  scan_pair [] two other = absurd (omega arith)
+  scan_pair (first ∷ []) two other = absurd (omega arith)
+  scan_pair (first ∷ (second ∷ bytes)) two other = rw (ne_eqb first line_feed other)
 
-  pub scan_feed : at < length text → get_or text at 0 ≡ line_feed → scan A at phase unknown (drop at text) ≡ Read at unknown (incomplete phase)
-  scan_feed h e = rw (drop-cons text at 0 h, e) (feed_ends A at phase unknown (drop (suc at) text))
-
-  pub scan_short : at < length text → length text - at < 2 → (get_or text at 0 ≡ line_feed → ⊥)
-      → scan A at phase unknown (drop at text) ≡ Malformed
+  -- a line feed, whatever follows it
+  scan_feed : (rest : List ℕ) → 1 ≤ length rest → get_or rest 0 0 ≡ line_feed → scan A at phase unknown rest ≡ ended at phase unknown
   unfolding scan
-  scan_short h short other = rw (drop-cons text at 0 h, drop_of_length-le text {i = suc at} (omega arith), ne_eqb _ _ other)
+  scan_feed [] some e = absurd (omega arith)
+  scan_feed (first ∷ []) some e = rw e
+  scan_feed (first ∷ (second ∷ bytes)) some e = rw e
 
-  scan_pair : at + 1 < length text → (get_or text at 0 ≡ line_feed → ⊥)
-      → scan A at phase unknown (drop at text)
-      ≡ after_pair
-      (number_in (take 2 (drop at text)))
-      (λ (code : ℕ). scan A (at + 2) (next_phase phase code) (unknown || leb A code) (drop (at + 2) text))
+  -- a byte that is none, and nothing after it
+  scan_short : (rest : List ℕ) → length rest < 2 → (get_or rest 0 0 ≡ line_feed → ⊥) → scan A at phase unknown rest ≡ None
   unfolding scan
-  scan_pair h other =
-      rw (drop-cons text at 0 (omega arith), drop-cons text (suc at) 0 (omega arith), ne_eqb _ _ other, two_more at)
+  scan_short [] short other = refl
+  scan_short (first ∷ []) short other = rw (ne_eqb first line_feed other)
+  scan_short (first ∷ (second ∷ bytes)) short other = absurd (omega arith)
 
-  pub scan_others : at + 1 < length text → (get_or text at 0 ≡ line_feed → ⊥) → number_in (take 2 (drop at text)) ≡ NonDigits
-      → scan A at phase unknown (drop at text) ≡ Malformed
-  scan_others h other e = rw (scan_pair h other, e)
+-- the pass over a line stands where the text goes on with `rest`, and answers what the pass over the
+-- whole line does
+pub record ReadTo (A from : ℕ) (line : List ℕ) (phase : Phase) (unknown : Bool) (rest : List ℕ) : Type 0 where
+  pub inside : length rest ≤ length line
+  pub so_far : scan A (from + (length line - length rest)) phase unknown rest ≡ activities_in A from (first_line line)
 
-  pub scan_number : (code : ℕ) → at + 1 < length text → (get_or text at 0 ≡ line_feed → ⊥)
-      → number_in (take 2 (drop at text)) ≡ Value code
-      → scan A at phase unknown (drop at text) ≡ scan A (at + 2) (next_phase phase code) (unknown || leb A code) (drop (at + 2) text)
-  scan_number code h other e = rw (scan_pair h other, e)
+module _ {A from : ℕ} {line : List ℕ} where
+  pub none_read : ReadTo A from line Before false line
+  none_read =
+      let here : from + (length line - length line) ≡ from = omega arith in
+      record { inside = omega arith; so_far = rw here (scan_first A from line) }
+
+  module _ {phase : Phase} {unknown : Bool} {rest : List ℕ} (r : ReadTo A from line phase unknown rest) where
+    -- two digits more
+    pub pair_read : 2 ≤ length rest → (get_or rest 0 0 ≡ line_feed → ⊥) → (code : ℕ) → number_in (take 2 rest) ≡ Some code
+        → ReadTo A from line (next_phase phase code) (unknown || leb A code) (drop 2 rest)
+    pair_read two other code e =
+        let at = from + (length line - length rest) in
+        let further : from + (length line - length (drop 2 rest)) ≡ at + 2 = omega (arith, length-drop 2 rest, r.inside) in
+        record {
+          inside = omega (arith, length-drop 2 rest, r.inside);
+          so_far = rw further (rw (scan_pair A at phase unknown rest two other, e) at r.so_far);
+        }
+
+    -- two bytes that are no digits
+    pub others_read : 2 ≤ length rest → (get_or rest 0 0 ≡ line_feed → ⊥) → number_in (take 2 rest) ≡ None
+        → activities_in A from (first_line line) ≡ None
+    others_read two other e = sym r.so_far ∙ rw (scan_pair A _ phase unknown rest two other, e)
+
+    -- the line feed
+    pub feed_read : 1 ≤ length rest → get_or rest 0 0 ≡ line_feed
+        → activities_in A from (first_line line) ≡ ended (from + (length line - length rest)) phase unknown
+    feed_read some e = sym r.so_far ∙ scan_feed A _ phase unknown rest some e
+
+    -- no two bytes are left, nor a line feed
+    pub short_read : length rest < 2 → (get_or rest 0 0 ≡ line_feed → ⊥) → activities_in A from (first_line line) ≡ None
+    short_read short other = sym r.so_far ∙ scan_short A _ phase unknown rest short other
+
+pub ruleset pairs_read = (none_read, pair_read, others_read, feed_read, short_read)

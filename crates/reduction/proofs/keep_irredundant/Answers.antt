@@ -7,29 +7,38 @@ use mathlib.Core.Bool.{not}
 use Rattle.foundation.proofs.laws.Members.{each_member, member_at}
 use Rattle.reduction_spec.specs.Cover.{Listable}
 use Rattle.reduction_spec.specs.Reduction.{reduced_words}
-use Rattle.exact_cover.proofs.laws.KeptWords.{keep_next, all_kept}
+use Rattle.exact_cover.proofs.laws.KeptWords.{drop_next, keep_next, all_kept}
 use Rattle.reduction.proofs.keep_irredundant.Goals as goal
+use Rattle.reduction.proofs.keep_irredundant.Goals.{then-not-is_redundant, else-not-is_redundant}
 
-pub is_redundant-requires : goal.is_redundant-requires
+pub is_redundant-requires-clause-place : goal.is_redundant-requires-clause-place
 unfolding Listable
-is_redundant-requires c =
-    let listable = c.requires.0 in
-    (listable, each_member listable (member_at c.args.words.now c.loop-at.at 0 c.loop-at-test.true))
+is_redundant-requires-clause-place c = each_member c.requires.places (member_at c.args.words.now c.loop-word.word-index 0 c.loop-word-test.true)
 
-pub loop-at-preserved : goal.loop-at-preserved
-loop-at-preserved c = (
-  keep_next
-      c.loop-at.invariant.0
-      c.loop-at-test.true
-      (ap not (sym c.is_redundant.ensures.answer ∙ c.if-is_redundant.false))
-      (omega (arith, c.loop-at.invariant.0.few, c.loop-at.invariant.0.room, c.loop-at-test.true, c.requires.1)),
-  omega (arith, c.is_redundant.auto.parts, c.loop-at.invariant.1),
+pub loop-word-preserved : goal.loop-word-preserved
+loop-word-preserved c = (
+  elim c.if-not-is_redundant.branch [
+    | then-not-is_redundant w ↦
+        rw (w.kept-is, w.count-is)
+        (keep_next
+        c.loop-word.invariant.0
+        c.loop-word-test.true
+        (ap not (sym c.is_redundant.ensures.answer ∙ w.if-not-is_redundant.true))
+        (omega (arith, c.loop-word.invariant.0.few, c.loop-word.invariant.0.room, c.loop-word-test.true, c.requires.room)))
+    | else-not-is_redundant w ↦
+        rw (w.kept-is, w.count-is)
+        (drop_next
+        c.loop-word.invariant.0
+        c.loop-word-test.true
+        (ap not (sym c.is_redundant.ensures.answer ∙ w.if-not-is_redundant.false)))
+  ],
+  omega (arith, c.is_redundant.auto.parts, c.loop-word.invariant.1),
 )
 
 pub returns-clause-count : goal.returns-clause-count
 unfolding reduced_words
-returns-clause-count c = (all_kept c.loop-at.invariant.0 c.loop-at-test.false).0
+returns-clause-count c = (all_kept c.loop-word.invariant.0 c.loop-word-test.false).0
 
 pub returns-clause-list : goal.returns-clause-list
 unfolding reduced_words
-returns-clause-list c = (all_kept c.loop-at.invariant.0 c.loop-at-test.false).1
+returns-clause-list c = (all_kept c.loop-word.invariant.0 c.loop-word-test.false).1

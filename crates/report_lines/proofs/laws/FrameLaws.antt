@@ -2,6 +2,7 @@
 -- digits, or where a byte of one of its numbers is no digit; else its settings are those numbers.
 -- The digits of the frame are those of its four numbers, one after the other.
 -- Assumes nothing.
+use Rattle.std.specs.Prelude.{None, Some}
 use Prim.Native.Nat.{ℕ, ◌+◌, ◌*◌, ◌≤◌, ◌<◌}
 use native.Mathlib.Omega.{arith}
 use mathlib.Core.Path.{◌≡◌}
@@ -15,24 +16,22 @@ use Rattle.foundation.specs.Lists.{all}
 use Rattle.foundation.proofs.laws.Booleans.{by_test, impossible}
 use Rattle.foundation.proofs.laws.Each.{all_append}
 use Rattle.limits.specs.declared.Settings.{Settings}
-use Rattle.hex_digits.specs.declared.Number.TheVariants.{Value, NonDigits}
 use Rattle.hex_digits.specs.Digits.{is_digit, number_in, line_feed}
 use Rattle.hex_digits.proofs.laws.NumberLaws.{number_digits, no_number_others}
 use Rattle.reporter_spec.specs.Program.{bound_digits, threshold_digits, settings_digits, settings_malformed, settings_in}
-use Rattle.report_lines.specs.declared.SettingsFrame.TheVariants.{Read, Malformed}
 use Rattle.report_lines.specs.ProgramLines.{settings_frame_in}
 
 module _ (input : List ℕ) where
-  pub frame_unended : (get_or input settings_digits 0 ≡ line_feed → ⊥) → settings_frame_in input ≡ Malformed
+  pub frame_unended : (get_or input settings_digits 0 ≡ line_feed → ⊥) → settings_frame_in input ≡ None
   unfolding settings_frame_in settings_malformed
   frame_unended h = rw (ne_eqb (get_or input settings_digits 0) line_feed h, and-false (all is_digit (take settings_digits input)))
 
-  pub frame_short : length input ≤ settings_digits → settings_frame_in input ≡ Malformed
+  pub frame_short : length input ≤ settings_digits → settings_frame_in input ≡ None
   frame_short h = let none = get_or-eq_default input 0 h in frame_unended (λ e. omega (arith, none, e))
 
   -- one of the numbers, with so many digits before it and after it
-  pub number_missing : (before digits after : ℕ) → before + (digits + after) ≡ settings_digits → number_in (take digits (drop before input)) ≡ NonDigits
-      → settings_frame_in input ≡ Malformed
+  pub number_missing : (before digits after : ℕ) → before + (digits + after) ≡ settings_digits → number_in (take digits (drop before input)) ≡ None
+      → settings_frame_in input ≡ None
   unfolding settings_frame_in settings_malformed
   number_missing before digits after parts e =
       let some_other : all is_digit (take (before + (digits + after)) input) ≡ false =
@@ -48,11 +47,11 @@ module _ (input : List ℕ) where
 
   -- all four are numbers
   pub frame_read : (s : Settings) → get_or input settings_digits 0 ≡ line_feed
-      → number_in (take bound_digits input) ≡ Value s.activities
-      → number_in (take bound_digits (drop bound_digits input)) ≡ Value s.inputs
-      → number_in (take bound_digits (drop (2 * bound_digits) input)) ≡ Value s.outputs
-      → number_in (take threshold_digits (drop (3 * bound_digits) input)) ≡ Value s.threshold
-      → settings_frame_in input ≡ Read s
+      → number_in (take bound_digits input) ≡ Some s.activities
+      → number_in (take bound_digits (drop bound_digits input)) ≡ Some s.inputs
+      → number_in (take bound_digits (drop (2 * bound_digits) input)) ≡ Some s.outputs
+      → number_in (take threshold_digits (drop (3 * bound_digits) input)) ≡ Some s.threshold
+      → settings_frame_in input ≡ Some s
   unfolding settings_frame_in settings_malformed settings_in
   frame_read s ended a i o t =
       let first = number_digits (take bound_digits input) s.activities a in
@@ -75,7 +74,7 @@ module _ (input : List ℕ) where
       rw (digits, ended, first.number, second.number, third.number, fourth.number)
 
   -- a frame has a line feed after its digits
-  pub frame_long : (s : Settings) → settings_frame_in input ≡ Read s → settings_digits < length input
+  pub frame_long : (s : Settings) → settings_frame_in input ≡ Some s → settings_digits < length input
   frame_long s e =
       by_test
       (ltb settings_digits (length input))
@@ -83,11 +82,11 @@ module _ (input : List ℕ) where
       (λ f. let short = frame_short (ltb-false settings_digits (length input) f) in impossible (cc))
 
   -- what the frame says of the definitions
-  pub read_settings : (s : Settings) → settings_frame_in input ≡ Read s → (settings_malformed input ≡ false) × (settings_in input ≡ s)
+  pub read_settings : (s : Settings) → settings_frame_in input ≡ Some s → (settings_malformed input ≡ false) × (settings_in input ≡ s)
   unfolding settings_frame_in
   read_settings s e =
       by_test (settings_malformed input) (λ t. let h = rw t at e in impossible (cc)) (λ f. (f, let h = rw f at e in cc))
 
-  pub read_malformed : settings_frame_in input ≡ Malformed → settings_malformed input ≡ true
+  pub read_malformed : settings_frame_in input ≡ None → settings_malformed input ≡ true
   unfolding settings_frame_in
   read_malformed e = by_test (settings_malformed input) (λ t. t) (λ f. let h = rw f at e in impossible (cc))

@@ -2,11 +2,11 @@
 -- refusal, or the words to report and the line of the run. There are no more words than the list
 -- takes.
 -- Assumes nothing.
+use Rattle.std.specs.Prelude.{Some}
 use Prim.Native.Nat.{ℕ, ◌+◌, ◌*◌, ◌≤◌}
 use native.Mathlib.Omega.{arith}
 use mathlib.Core.Path.{◌≡◌}
 use mathlib.Core.List.{List, ◌++◌}
-use mathlib.Core.Option.{some}
 use lib.ListN.{length, take, length-take}
 use Rattle.limits.specs.declared.Refusal.{Refusal}
 use Rattle.limits.specs.declared.Settings.{Settings}
@@ -19,7 +19,7 @@ use Rattle.reporter.specs.Reporting.{log_report, most_output}
 use Rattle.reporter.proofs.laws.OutputRoom.{report_parts}
 use Rattle.reporter.proofs.laws.RunListed.{Reports, reported_fits}
 
-pub refused_report : (s : Settings) (text : List ℕ) {r : Refusal} → run_refusal s text ≡ some r → log_report s text ≡ refusal_line r
+pub refused_report : (s : Settings) (text : List ℕ) {r : Refusal} → run_refusal s text ≡ Some r → log_report s text ≡ refusal_line r
 unfolding log_report
 refused_report s text e = rw e
 

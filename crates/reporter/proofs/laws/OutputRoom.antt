@@ -2,12 +2,12 @@
 -- a line for each reported place, of which there are no more than the list takes, and the last
 -- line.
 -- Assumes nothing.
+use Rattle.std.specs.Prelude.{Option, None, Some}
 use Prim.Native.Nat.{ℕ, ◌≤◌, ◌<◌}
 use native.Mathlib.Omega.{arith}
 use mathlib.Core.Path.{◌≡◌, refl}
 use mathlib.Core.Bool.{true, false}
 use mathlib.Core.List.{List, ◌++◌}
-use mathlib.Core.Option.{Option, none, some}
 use borrow.Author.Tests.{lt-ltb, le-ltb, ltb-true, ltb-false}
 use lib.Dec.{ltb}
 use lib.ListN.{length, length-append}
@@ -40,7 +40,7 @@ log_fits s text = go (run_refusal s text) refl
     p = run s text capacity
 
     go : (o : Option Refusal) → run_refusal s text ≡ o → length (answer refusal_line o (report p)) ≤ most_output
-    go none e =
+    go None e =
         rw (report_parts p) (
         omega (
           arith,
@@ -50,7 +50,7 @@ log_fits s text = go (run_refusal s text) refl
           reported_fits s text capacity e,
         )
         )
-    go (some r) e = omega (arith, length_refusal r)
+    go (Some r) e = omega (arith, length_refusal r)
 
 -- what decides what is written: the length of the input, then the form of the settings frame, then
 -- the log

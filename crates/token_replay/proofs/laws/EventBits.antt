@@ -2,19 +2,15 @@
 -- numbers of a trace are far below 2 to the power 15, so that each step is the step of the
 -- integers.
 -- Assumes nothing.
-use Prim.Native.Nat.{ℕ, ◌+◌, ◌*◌, ◌%◌, ◌≤◌}
-use native.Mathlib.Omega.{arith}
-use mathlib.Core.Path.{◌≡◌, ap₂, ◌∙◌}
-use mathlib.Core.Bool.{true, false}
-use lib.IntN.{ℤ, pos, ◌+ℤ◌, ◌-ℤ◌}
-use lib.Signed.{mag, le_z}
-use borrow.Author.Rules.{sfits_of}
+use Rattle.std.proofs.Common.{◌≡◌, ℕ, ◌+◌, ◌*◌, ◌%◌, ◌≤◌, ◌<◌, ℤ, pos, ◌+ℤ◌, ◌-ℤ◌, to_z, of_z, arith}
+use Rattle.std.proofs.lemmas.Int.{ints}
+use Rattle.std.specs.Int.{int_min}
+use Rattle.std.specs.Int.Signed.{mag}
 use mir.Syntax.{w16}
-use mir.Val.{SFits, of_z, to_z}
-use mir.ValLaws.{to_z-of_z}
 use Rattle.foundation.proofs.laws.Differences.{mag_add, mag_sub}
 use Rattle.places.specs.Sets.{has}
 use Rattle.event_log_spec.specs.Frames.{most_events}
+use Rattle.replay_spec.specs.Balance.{smaller}
 use Rattle.token_replay.specs.declared.DigitSets.{DigitSets}
 use Rattle.token_replay.specs.declared.Tokens.{Tokens}
 use Rattle.token_replay.specs.Tokens.{after_digit}
@@ -23,61 +19,37 @@ use Rattle.token_replay.specs.Tokens.{after_digit}
 abbrev back : ℤ → ℤ
 back z = to_z w16 (of_z w16 z)
 
-small : {z : ℤ} → mag z ≤ 1000 → SFits w16 z
-small h = sfits_of (omega arith)
+-- a balance from which a token or none is taken, as the machine computes it
+abbrev taken : ℤ → ℕ → ℤ
+taken balance takes = back balance -ℤ to_z w16 takes
+
+module _ (balance : ℤ) (few : mag balance ≤ 2 * most_events) (takes : ℕ) (one : takes ≤ 1) where
+  given_is : (gives : ℕ) → gives ≤ 1 → back (back (taken balance takes) +ℤ to_z w16 gives) ≡ (balance -ℤ pos takes) +ℤ pos gives
+  given_is gives h = omega (arith, ints)
+
+  least_is : (least next : ℤ) → mag least < 32768 → mag next < 32768 → next ≡ int_min (back least) (back (taken balance takes))
+      → back next ≡ smaller least (balance -ℤ pos takes)
+  least_is least next h k e = grind (arith, ints)
 
 module _ (s : DigitSets) (t : Tokens) (digit : ℕ) where
-  -- the balance after the event took its token, and after it gave one
-  abbrev taken : ℤ
-  taken = t.balance -ℤ pos (has s.outputs (digit % 32))
+  abbrev takes : ℕ
+  takes = has s.outputs (digit % 32)
 
-  abbrev given : ℤ
-  given = taken +ℤ pos (has s.inputs (digit % 32))
-
-  -- the same as the machine computes them
-  abbrev taken_bits : ℤ
-  taken_bits = back t.balance -ℤ to_z w16 (has s.outputs (digit % 32))
-
-  abbrev given_bits : ℤ
-  given_bits = back taken_bits +ℤ to_z w16 (has s.inputs (digit % 32))
+  abbrev gives : ℕ
+  gives = has s.inputs (digit % 32)
 
   -- an event changes the balance by at most 2 in this measure, in which n and -(n + 1) count alike
   pub mag_event : mag (after_digit s t digit).balance ≤ mag t.balance + 2
   unfolding after_digit
-  mag_event = omega (arith, mag_sub t.balance (has s.outputs (digit % 32)), mag_add taken (has s.inputs (digit % 32)))
+  mag_event = omega (arith, mag_sub t.balance takes, mag_add (t.balance -ℤ pos takes) gives)
 
-  module _ (few : mag t.balance ≤ 2 * most_events) where
-    taken_is : taken_bits ≡ taken
-    taken_is =
-        ap₂ ◌-ℤ◌ (to_z-of_z w16 t.balance (small (omega arith))) (to_z-of_z w16 (pos (has s.outputs (digit % 32))) (small (omega arith)))
-
-    pub taken_fits : SFits w16 taken_bits
-    taken_fits = rw taken_is (small (omega (arith, mag_sub t.balance (has s.outputs (digit % 32)))))
-
-    taken_back : back taken_bits ≡ taken
-    taken_back = to_z-of_z w16 taken_bits taken_fits ∙ taken_is
-
-    given_is : given_bits ≡ given
-    given_is = ap₂ ◌+ℤ◌ taken_back (to_z-of_z w16 (pos (has s.inputs (digit % 32))) (small (omega arith)))
-
-    pub given_fits : SFits w16 given_bits
-    unfolding after_digit
-    given_fits = rw given_is (small (omega (arith, mag_event)))
-
-    given_back : back given_bits ≡ given
-    given_back = to_z-of_z w16 given_bits given_fits ∙ given_is
-
-    -- what the event leaves, where the least balance stays and where it falls
-    module _ (fits : SFits w16 t.least) where
-      least_back : back t.least ≡ t.least
-      least_back = to_z-of_z w16 t.least fits
-
-      pub least_stays : le_z (back t.least) (back taken_bits) ≡ true
-          → record { balance = back given_bits; least = back t.least } ≡ after_digit s t digit
-      unfolding after_digit
-      least_stays e = rw (given_back, least_back) (rw (rw (least_back, taken_back) at e))
-
-      pub least_falls : le_z (back t.least) (back taken_bits) ≡ false
-          → record { balance = back given_bits; least = back taken_bits } ≡ after_digit s t digit
-      unfolding after_digit
-      least_falls e = rw (given_back, taken_back) (rw (rw (least_back, taken_back) at e))
+  -- what the event leaves, as the machine computes it
+  pub event_bits : (next : ℤ) → mag t.balance ≤ 2 * most_events → mag t.least < 32768 → mag next < 32768
+      → next ≡ int_min (back t.least) (back (taken t.balance takes))
+      → record { balance = back (back (taken t.balance takes) +ℤ to_z w16 gives); least = back next } ≡ after_digit s t digit
+  unfolding after_digit
+  event_bits next few h k e =
+      rw (
+        given_is t.balance few takes (omega arith) gives (omega arith),
+        least_is t.balance few takes (omega arith) t.least next h k e,
+      )

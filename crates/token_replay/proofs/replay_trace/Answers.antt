@@ -1,60 +1,58 @@
 -- `token_replay::replay_trace` meets its contract: one event more keeps what the loop's invariant
--- says, and a turn has two. Where no digits are left, all events have been replayed.
+-- says. Where no two digits are left, all events have been replayed.
 -- Assumes nothing.
-use Rattle.std.proofs.Common.{ℕ, List, length, get_or, ◌≡◌, sym, ap, subst, ◌∙◌, true, ◌+◌, ◌≤◌, ◌<◌, arith}
+use Rattle.std.proofs.Common.{ℕ, List, [], ◌∷◌, ◌++◌, length, get_or, ◌≡◌, ap, ◌∙◌, ◌<◌, arith}
+use mathlib.Core.Bool.{and-eq-true_iff}
 use Rattle.foundation.specs.Lists.{all, foldl}
-use Rattle.foundation.proofs.laws.Each.{all_at}
-use Rattle.places.specs.declared.Place.{Place}
 use Rattle.hex_digits.specs.Digits.{is_digit}
+use Rattle.places.specs.declared.Place.{Place}
 use Rattle.token_replay.specs.declared.DigitSets.{DigitSets}
 use Rattle.token_replay.specs.declared.Tokens.{Tokens}
 use Rattle.token_replay.specs.Tokens.{after_digit, after_event, after_trace, codes_in, digit_sets}
 use Rattle.token_replay.proofs.laws.ByDigit.{event_by_digit}
 use Rattle.token_replay.proofs.laws.EventBits.{mag_event}
 use Rattle.token_replay.proofs.laws.EventByEvent.{event_by_event}
-use Rattle.token_replay.proofs.laws.CodeDigits.{codes_next, codes_end}
 use Rattle.token_replay.proofs.replay_trace.Invariants.{Reached}
 use Rattle.token_replay.proofs.replay_trace.Goals as goal
 
-module _ (digits : List ℕ) (sets : DigitSets) (tokens : Tokens) (at : ℕ) (r : Reached digits sets tokens at) where
-  after_one : all is_digit digits ≡ true → at < length digits → Reached digits sets (after_digit sets tokens (get_or digits at 0)) (at + 2)
-  after_one known more =
-      let digit = get_or digits at 0 in (
-        omega (arith, r.0),
-        omega (arith, mag_event sets tokens digit, r.1),
-        λ place e.
-            let step =
-            ap (λ (s : DigitSets). after_digit s tokens digit) e ∙ event_by_digit place tokens digit (all_at is_digit digits at 0 known more)
-            in
-            rw step (sym (ap (foldl (after_event place) tokens) (codes_next digits at r.0 more)) ∙ r.2 place e),
+module _ (digits : List ℕ) (sets : DigitSets) {tokens : Tokens} where
+  one_more : (pair left : List ℕ) {next : Tokens} → length pair ≡ 2 → next ≡ after_digit sets tokens (get_or pair 1 0)
+      → Reached digits (pair ++ left) sets tokens → Reached digits left sets next
+  unfolding codes_in
+  one_more [] left two e r = absurd (omega arith)
+  one_more (d ∷ []) left two e r = absurd (omega arith)
+  one_more (d ∷ (digit ∷ [])) left two e r =
+      let first = (and-eq-true_iff (is_digit d) (all is_digit (digit ∷ left))).0 r.known in
+      let second = (and-eq-true_iff (is_digit digit) (all is_digit left)).0 first.1 in
+      rw e (
+      record {
+        few = omega (arith, mag_event sets tokens digit, r.few);
+        known = second.1;
+        alike = λ place same.
+            ap
+            (λ (t : Tokens). foldl (after_event place) t (codes_in left))
+            (ap (λ (s : DigitSets). after_digit s tokens digit) same ∙ event_by_digit place tokens digit second.0)
+            ∙ r.alike place same;
+      }
       )
+  one_more (d ∷ (digit ∷ (x ∷ xs))) left two e r = absurd (omega arith)
 
-  -- what one event more gives
-  one_more : (next : Tokens) → all is_digit digits ≡ true → at < length digits → next ≡ after_digit sets tokens (get_or digits at 0)
-      → Reached digits sets next (at + 2)
-  one_more next known more e = rw e (after_one known more)
+  none_left : (left : List ℕ) → length left < 2 → Reached digits left sets tokens → (place : Place) → sets ≡ digit_sets place
+      → tokens ≡ after_trace place (codes_in digits)
+  unfolding codes_in
+  none_left [] few r place same = r.alike place same ∙ event_by_event place (codes_in digits)
+  none_left (d ∷ []) few r place same = r.alike place same ∙ event_by_event place (codes_in digits)
+  none_left (d ∷ (e ∷ left)) few r place same = absurd (omega arith)
 
-  none_left : length digits ≤ at → (place : Place) → sets ≡ digit_sets place → tokens ≡ after_trace place (codes_in digits)
-  none_left end place e =
-      sym (ap (foldl (after_event place) tokens) (codes_end digits at end)) ∙ r.2 place e ∙ event_by_event place (codes_in digits)
-
-pub replay_event-tokens-requires : goal.replay_event-tokens-requires
-replay_event-tokens-requires c =
-    let first = one_more _ _ _ _ c.loop-at.invariant.0 _ c.requires.1 (omega arith) c.replay_event-first.ensures in
-    omega (arith, first.1)
-
-pub loop-at-preserved : goal.loop-at-preserved
-loop-at-preserved c =
-    let at = c.loop-at.at in
-    let first = one_more _ _ _ _ c.loop-at.invariant.0 _ c.requires.1 (omega arith) c.replay_event-first.ensures in
-    let second = one_more _ _ _ _ first _ c.requires.1 c.loop-at-test.true c.replay_event-tokens.ensures in
-    let four : at + 2 + 2 ≡ at + 4 = omega arith in
-    (subst (Reached c.args.digits.now c.args.sets _) four second, omega arith)
-
-pub returns-then-at-digits : goal.returns-then-at-digits
-returns-then-at-digits c =
-    let last = one_more _ _ _ _ c.loop-at.invariant.0 _ c.requires.1 c.if-at-digits.true c.replay_event.ensures in
-    none_left _ _ _ _ last c.loop-at-test.false
+pub loop-pair-preserved : goal.loop-pair-preserved
+loop-pair-preserved c =
+    let steps = c.in-Some.ensures.steps in
+    let before = c.loop-pair.invariant in (
+      steps.0 ∙ before.0,
+      one_more _ _ _ _ (steps.1.1 ∙ before.0) c.after-tokens.ensures (rw steps.1.0 at before.1),
+    )
 
 pub returns : goal.returns
-returns c = none_left _ _ _ _ c.loop-at.invariant.0 c.if-at-digits.false
+returns c =
+    let before = c.loop-pair.invariant in
+    none_left _ _ _ (omega (arith, c.in-None.ensures.steps, before.0)) before.1

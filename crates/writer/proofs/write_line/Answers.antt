@@ -5,7 +5,7 @@ use Rattle.writer.proofs.write_line.Goals as goal
 
 pub returns : goal.returns
 returns c =
-    let place = c.place_of-place.ensures in
+    let place = c.from-place.ensures in
     line_written
     c.args.line.now
     _

@@ -4,11 +4,11 @@
 use Rattle.writer.proofs.laws.LineByLine.{none_written, next_written, all_written}
 use Rattle.writer.proofs.write_lines.Goals as goal
 
-pub loop-at-init : goal.loop-at-init
-loop-at-init c = none_written
+pub loop-word-init : goal.loop-word-init
+loop-word-init c = none_written
 
-pub loop-at-preserved : goal.loop-at-preserved
-loop-at-preserved c = next_written c.loop-at.invariant c.loop-at-test.true c.write_line.ensures
+pub loop-word-preserved : goal.loop-word-preserved
+loop-word-preserved c = next_written c.loop-word.invariant c.loop-word-test.true c.write_line.ensures
 
 pub returns-clause-count : goal.returns-clause-count
-returns-clause-count c = (all_written c.loop-at.invariant c.loop-at-test.false).0
+returns-clause-count c = (all_written c.loop-word.invariant c.loop-word-test.false).0

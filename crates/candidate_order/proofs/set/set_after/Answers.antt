@@ -7,24 +7,33 @@ use native.Mathlib.Numerals.{add-one}
 use mathlib.Core.Path.{sym, ◌∙◌}
 use mathlib.Core.Logic.{◌⊎◌, inl, inr}
 use Rattle.places.specs.Sets.{size}
-use Rattle.candidate_order_spec.proofs.laws.Highest.{bit_value}
+use Rattle.candidate_order_spec.proofs.laws.Highest.{bit_value, added_fits}
 use Rattle.candidate_order_spec.proofs.laws.NextSet.{after_added, after_past}
 use Rattle.candidate_order_spec.proofs.laws.Succession.{candidate_bounds, after_by_lem, past_by_lem}
+use Rattle.candidate_order.proofs.HighestCodes.{logarithm_highest}
 use Rattle.candidate_order.proofs.set.set_after.Goals as goal
-use Rattle.candidate_order.proofs.set.set_after.Goals.{then-next-activities+else-size_of-most, else-next-activities}
+use Rattle.candidate_order.proofs.set.set_after.Goals.{else-next-from-via-then-next-from+else-size_of-from, else-next-from-via-else-next-from}
 
-pub highest_of-next-requires : goal.highest_of-next-requires
-highest_of-next-requires c =
+pub ilog2-next-requires : goal.ilog2-next-requires
+ilog2-next-requires c =
     let a = c.args in
     (candidate_bounds a.activities a.most c.requires.0 a.set c.requires.1).some
 
-pub returns-then-size_of-most : goal.returns-then-size_of-most
-returns-then-size_of-most c =
+pub overflow_add-result : goal.overflow_add-result
+overflow_add-result c =
+    let log = c.ilog2-next in
+    let code = logarithm_highest log.ensures.bound log.ensures.power_le log.ensures.next_power_gt in
+    rw (bit_value (log.result + 1) (omega arith), add-one log.result) (omega (arith, added_fits log.result c.args.set code (omega arith)))
+
+pub returns-then-size_of-from : goal.returns-then-size_of-from
+returns-then-size_of-from c =
     let a = c.args in
-    let h = c.highest_of-next.result in
+    let log = c.ilog2-next in
+    let h = log.result in
+    let code = logarithm_highest log.ensures.bound log.ensures.power_le log.ensures.next_power_gt in
     rw (bit_value (h + 1) (omega arith), add-one h)
     (sym (after_by_lem a.activities a.most c.requires.0 a.set c.requires.1
-    ∙ after_added h a.set c.highest_of-next.ensures a.activities a.most (omega arith) (omega (arith, c.size_of.ensures))))
+    ∙ after_added h a.set code a.activities a.most (omega arith) (omega (arith, c.size_of.ensures))))
 
 pub set_past-requires : goal.set_past-requires
 set_past-requires c =
@@ -35,13 +44,15 @@ set_past-requires c =
 pub returns : goal.returns
 returns c =
     let a = c.args in
-    let h = c.highest_of-next.result in
+    let log = c.ilog2-next in
+    let h = log.result in
+    let code = logarithm_highest log.ensures.bound log.ensures.power_le log.ensures.next_power_gt in
     let full : (a.activities ≤ suc h) ⊎ (a.most ≤ size a.set) =
-    elim c.if-next-activities.branch [
-      | then-next-activities+else-size_of-most w ↦ inr (omega (arith, w.size_of.ensures))
-      | else-next-activities w ↦ inl (omega arith)
+    elim c.else-next-from.branch [
+      | else-next-from-via-then-next-from+else-size_of-from w ↦ inr (omega (arith, w.size_of.ensures))
+      | else-next-from-via-else-next-from w ↦ inl (omega arith)
     ] in
     c.set_past.ensures a.most c.requires.1
     ∙ past_by_lem a.activities a.most c.requires.0 a.set c.requires.1
-    ∙ sym (after_past h a.set c.highest_of-next.ensures a.activities a.most full)
+    ∙ sym (after_past h a.set code a.activities a.most full)
     ∙ sym (after_by_lem a.activities a.most c.requires.0 a.set c.requires.1)

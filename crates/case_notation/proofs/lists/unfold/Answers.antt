@@ -1,27 +1,16 @@
--- `case_notation::lists::unfold` meets its contract: what each word of the text stands for is the next
--- that is put into the buffer.
+-- `case_notation::lists::unfold` meets its contract: each word of the text is a run, which gives its
+-- words one after the other.
 -- Assumes nothing.
-use Rattle.std.proofs.Common.{arith}
-use Rattle.case_notation.specs.WordLists.{run_meant, list_meant}
-use Rattle.case_notation.proofs.laws.Appending.{nothing, then_more, answer_within}
-use Rattle.case_notation.proofs.laws.Pieces.{meant_next, meant_none}
+use Rattle.std.proofs.Common.{rules}
+use Rattle.std.proofs.lemmas.Iterator.Adapters.{YieldsList-from_flat_map}
+use Rattle.std.proofs.lemmas.Iterator.Consumers.{YieldsList-at}
+use Rattle.case_notation.proofs.laws.Ranges.{run_gives}
+use Rattle.case_notation.proofs.laws.Words.{words_give}
 use Rattle.case_notation.proofs.lists.unfold.Goals as goal
 
-pub loop-at-init : goal.loop-at-init
-loop-at-init c = (omega arith, omega arith, λ after answer a. a)
-
-pub loop-at-smaller : goal.loop-at-smaller
-loop-at-smaller c = omega (arith, c.next-at.ensures)
-
-pub loop-at-preserved : goal.loop-at-preserved
-loop-at-preserved c =
-    let a = c.append_run-count.ensures in (
-      omega (arith, c.next-at.ensures),
-      answer_within a,
-      λ after answer b.
-          c.loop-at.invariant.2 after answer (rw (meant_next run_meant c.args.text.now c.loop-at-test.true c.before-in-loop-at.ensures c.next-at.ensures) (then_more a b)),
-    )
-
 pub returns : goal.returns
-unfolding list_meant
-returns c = c.loop-at.invariant.2 _ _ (rw (meant_none run_meant c.args.text.now c.loop-at-test.false) (nothing c.loop-at.invariant.1))
+returns c =
+    let words = YieldsList-at c.flat_map.ensures.source (words_give _ _ c.words.ensures.text c.words.ensures.blank) in
+    let runs = c.flat_map.ensures in
+    c.fill.ensures _
+    (YieldsList-from_flat_map _ _ _ _ _ _ (λ x u q k. (search rules, λ j e. YieldsList-at e (search (rules, run_gives)))) words runs.closure runs.front runs.back runs.done)

@@ -1,15 +1,8 @@
--- The value, with the digits from the index on, is the number of all digits. The measure is what is
--- left of the digits.
+-- The number and the digits that are left make the number of all digits.
 -- Assumes nothing.
-use Rattle.std.proofs.Common.{◌-◌, ◌≤◌, ◌≡◌, length, drop}
-use Rattle.foundation.specs.Lists.{foldl}
-use Rattle.case_notation.specs.Numbers.{none, longer}
+use Rattle.std.proofs.Common.{◌≡◌, drop}
+use Rattle.case_notation.specs.Numbers.{continued}
 use Rattle.case_notation.proofs.numbers.number.Given as goal
 
-abbrev pub invariant-loop-at : goal.invariant-loop-at
-invariant-loop-at l =
-    (l.at ≤ length l.digits) × (l.value ≤ none)
-    × (foldl (longer l.base) l.value (drop l.at l.digits) ≡ foldl (longer l.base) 0 l.digits)
-
-abbrev pub decreases-loop-at : goal.decreases-loop-at
-decreases-loop-at l = length l.digits - l.at
+abbrev pub invariant-loop-byte : goal.invariant-loop-byte
+invariant-loop-byte l = continued l.base l.number (drop l.byte-index l.digits) ≡ continued l.base 0 l.digits

@@ -1,24 +1,17 @@
--- `case_notation::runs::run_length` meets its contract: each word continues the run or ends it.
+-- `case_notation::runs::run_length` meets its contract: the first chunk of the words is the run.
 -- Assumes nothing.
-use Rattle.std.proofs.Common.{arith}
-use Rattle.case_notation.proofs.laws.RunLengths.{no_run, first_word, goes_on, stops, ends}
+use Rattle.std.proofs.Common.{arith, sym, ap, ◌∙◌, subst, length, length-append}
+use Rattle.std.specs.Fn.{ComputesOnPairs}
+use Rattle.case_notation.specs.Runs.{run_length}
+use Rattle.case_notation.proofs.laws.RunLengths.{run_is, no_run}
 use Rattle.case_notation.proofs.runs.run_length.Goals as goal
 
-pub returns-then-words-eq0 : goal.returns-then-words-eq0
-returns-then-words-eq0 c = no_run _ _ c.if-words-eq0.true
+pub returns-in-Some-clause-run : goal.returns-in-Some-clause-run
+returns-in-Some-clause-run g c = λ test computes.
+    let first = c.in-Some.ensures.steps in
+    let parted = first.2 test (subst (ComputesOnPairs g.F.FnMut test) (sym c.chunk_by.ensures.closure) computes) in
+    run_is test _ _ first.1 (omega (arith, ap length first.0, length-append c.in-Some.first.now c.next.new.self.rest.now)) parted.1
+    ∙ ap (run_length test) c.chunk_by.ensures.rest
 
-pub loop-at-init : goal.loop-at-init
-loop-at-init c = (omega arith, omega arith, first_word _ _ c.if-words-eq0.false)
-
-pub returns-then-word-before : goal.returns-then-word-before
-returns-then-word-before c = stops _ _ _ c.loop-at.invariant.2 (omega arith) (λ e. omega arith)
-
-pub returns-then-word-before-2 : goal.returns-then-word-before-2
-returns-then-word-before-2 c =
-    stops _ _ _ c.loop-at.invariant.2 (omega arith) (λ e. c.if-word-before-2.true (omega arith))
-
-pub loop-at-preserved : goal.loop-at-preserved
-loop-at-preserved c = (omega arith, omega arith, goes_on _ _ _ c.loop-at.invariant.2 (omega arith) (omega arith))
-
-pub returns : goal.returns
-returns c = ends _ _ _ c.loop-at.invariant.2 c.loop-at-test.false
+pub returns-clause-run : goal.returns-clause-run
+returns-clause-run g c = λ test computes. no_run test c.args.words.now (ap length (sym c.chunk_by.ensures.rest) ∙ c.in-None.ensures.steps.0)

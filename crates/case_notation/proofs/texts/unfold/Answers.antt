@@ -1,27 +1,25 @@
--- `case_notation::texts::unfold` meets its contract: what each word of the text stands for is the next
--- that is put into the buffer.
+-- `case_notation::texts::unfold` meets its contract: each word of the text is a piece, whose bytes
+-- come as many times as it says.
 -- Assumes nothing.
-use Rattle.std.proofs.Common.{arith}
-use Rattle.case_notation.specs.Texts.{piece_meant, text_meant}
-use Rattle.case_notation.proofs.laws.Appending.{nothing, then_more, answer_within}
-use Rattle.case_notation.proofs.laws.Pieces.{meant_next, meant_none}
+use Rattle.std.proofs.Common.{rules}
+use Rattle.std.proofs.lemmas.Iterator.{YieldsList-from_slice, YieldsList-from_map}
+use Rattle.std.proofs.lemmas.Iterator.Adapters.{YieldsList-from_flat_map}
+use Rattle.std.proofs.lemmas.Iterator.Consumers.{YieldsList-at}
+use Rattle.case_notation.specs.Texts.{byte_meant, copies}
+use Rattle.case_notation.proofs.laws.Copies.{copies_give}
+use Rattle.case_notation.proofs.laws.Words.{words_give}
 use Rattle.case_notation.proofs.texts.unfold.Goals as goal
 
-pub loop-at-init : goal.loop-at-init
-loop-at-init c = (omega arith, omega arith, λ after answer a. a)
-
-pub loop-at-smaller : goal.loop-at-smaller
-loop-at-smaller c = omega (arith, c.next-at.ensures)
-
-pub loop-at-preserved : goal.loop-at-preserved
-loop-at-preserved c =
-    let a = c.append_piece-count.ensures in (
-      omega (arith, c.next-at.ensures),
-      answer_within a,
-      λ after answer b.
-          c.loop-at.invariant.2 after answer (rw (meant_next piece_meant c.args.text.now c.loop-at-test.true c.before-in-loop-at.ensures c.next-at.ensures) (then_more a b)),
-    )
-
 pub returns : goal.returns
-unfolding text_meant
-returns c = c.loop-at.invariant.2 _ _ (rw (meant_none piece_meant c.args.text.now c.loop-at-test.false) (nothing c.loop-at.invariant.1))
+returns c =
+    let words = YieldsList-at c.flat_map.ensures.source (words_give _ _ c.words.ensures.text c.words.ensures.blank) in
+    let pieces = c.flat_map.ensures in
+    let bytes = c.flat_map-bytes.ensures in
+    c.fill.ensures _
+    (YieldsList-from_map _ byte_meant
+    (YieldsList-at c.map.ensures.source
+    (YieldsList-from_flat_map _ _ _ _ (λ bytes. bytes) _ (λ x u q k. (search rules, λ j e. YieldsList-at e (YieldsList-from_slice _ (search rules))))
+    (YieldsList-at bytes.source
+    (YieldsList-from_flat_map _ _ _ (λ bytes. bytes.now) copies _ (λ x u q k. (search rules, λ j e. YieldsList-at e (search (rules, copies_give)))) words pieces.closure pieces.front pieces.back pieces.done))
+    bytes.closure bytes.front bytes.back bytes.done))
+    c.map.ensures.closure (λ x r q k. search rules))

@@ -1,57 +1,50 @@
 -- `discovery::search::search_from` meets its contract: a turn takes the candidates of one output
 -- set; one that stops the run, or the last one, makes the whole run.
 -- Assumes nothing.
-use Prim.Native.Nat.{ℕ}
+use Rattle.std.proofs.Common.{◌≡◌, true, Err, rules}
 use native.Mathlib.Omega.{arith}
-use mathlib.Core.List.{List}
 use mathlib.Core.Logic.{inr}
 use Rattle.limits.specs.declared.Settings.{Settings}
-use Rattle.places.specs.Succession.{candidates_from}
 use Rattle.discovery.specs.Searching.{Searchable}
+use Rattle.places.specs.Succession.{candidates_from}
 use Rattle.discovery.proofs.laws.Onward.{reached_start}
-use Rattle.discovery.proofs.laws.OutputsLeft.{Ranges, outputs_done, row_countable, fewer_rows, outputs_stop, outputs_on}
+use Rattle.discovery.proofs.laws.OutputsLeft.{Ranges, outputs_done, this_row, row_countable, fewer_rows, outputs_stop, outputs_on}
 use Rattle.discovery.proofs.search.search_from.Goals as goal
 
 -- what is known of the settings
-ranges : (s : Settings) (text index : List ℕ) → Searchable s text index → Ranges s.activities s.inputs
-ranges s text index known = record { few = known.few_activities; some_codes = known.some_activities; some_inputs = known.some_inputs }
+ranges : (s : Settings) → Searchable s → Ranges s.activities s.inputs
+ranges s known = record { few = known.few_activities; some_codes = known.some_activities; some_inputs = known.some_inputs }
 
 pub loop-outputs-init : goal.loop-outputs-init
 unfolding candidates_from
 loop-outputs-init c =
-    let pre = c.requires in
-    record { inputs = pre.2; outputs = inr pre.3; reached = reached_start _ pre.1; countable = pre.4 }
+    record { inputs = c.requires.inputs; outputs = inr c.requires.outputs; reached = reached_start _; countable = c.requires.countable }
 
-pub search_inputs-run-requires : goal.search_inputs-run-requires
-search_inputs-run-requires c =
-    let at = c.loop-outputs.invariant in (
-      c.requires.0,
-      at.reached.stands,
-      at.inputs,
-      row_countable (ranges _ _ _ c.requires.0) at c.loop-outputs-test.true,
-    )
+pub search_inputs-requires : goal.search_inputs-requires
+search_inputs-requires c =
+    let at = c.loop-outputs.invariant in
+    record { settings = c.requires.settings; inputs = at.inputs; countable = row_countable (ranges _ c.requires.settings) at c.loop-outputs-test.true }
 
-pub returns-then-run-ne-COMPLETED : goal.returns-then-run-ne-COMPLETED
+pub set_after-outputs-requires : goal.set_after-outputs-requires
+set_after-outputs-requires c =
+    let known = ranges _ c.requires.settings in
+    (known.few, this_row known c.loop-outputs.invariant c.loop-outputs-test.true)
+
+pub returns-in_err-search_inputs-clause-carried : goal.returns-in_err-search_inputs-clause-carried
 unfolding candidates_from
-returns-then-run-ne-COMPLETED c =
-    outputs_stop (ranges _ _ _ c.requires.0) c.loop-outputs.invariant c.loop-outputs-test.true c.search_inputs-run.ensures c.if-run-ne-COMPLETED.true
+returns-in_err-search_inputs-clause-carried c =
+    let same : c.from_residual.result ≡ Err c.in_err-search_inputs.field-0.0 = search rules in
+    rw same (outputs_stop (ranges _ c.requires.settings) c.loop-outputs.invariant c.loop-outputs-test.true c.in_err-search_inputs.ensures)
 
 pub loop-outputs-smaller : goal.loop-outputs-smaller
 loop-outputs-smaller c =
-    rw c.set_after-outputs.ensures (fewer_rows (ranges _ _ _ c.requires.0) c.loop-outputs.invariant c.loop-outputs-test.true)
+    rw c.set_after-outputs.ensures (fewer_rows (ranges _ c.requires.settings) c.loop-outputs.invariant c.loop-outputs-test.true)
 
 pub loop-outputs-preserved : goal.loop-outputs-preserved
 loop-outputs-preserved c =
     rw c.set_after-outputs.ensures
-    (outputs_on
-    (ranges _ _ _ c.requires.0)
-    c.loop-outputs.invariant
-    c.loop-outputs-test.true
-    c.search_inputs-run.ensures
-    (omega arith)
-    c.search_inputs-run.auto.rejected
-    c.search_inputs-run.auto.found)
+    (outputs_on (ranges _ c.requires.settings) c.loop-outputs.invariant c.loop-outputs-test.true c.in_ok-search_inputs.ensures)
 
-pub returns : goal.returns
+pub returns-clause-carried : goal.returns-clause-carried
 unfolding candidates_from
-returns c = outputs_done c.loop-outputs.invariant c.loop-outputs-test.false
+returns-clause-carried c = outputs_done c.loop-outputs.invariant c.loop-outputs-test.false

@@ -13,12 +13,10 @@ abbrev pub invariant-loop-outputs : goal.invariant-loop-outputs
 invariant-loop-outputs l =
     OutputsLeft
     (record {
-      verdict = verdict l.settings.threshold (frames_of l.text);
-      budget = l.budget;
+      verdict = verdict l.search.settings.threshold (frames_of l.search.log.text.now);
+      budget = l.search.budget;
       candidates = places_from l.settings.activities l.settings.inputs l.settings.outputs l.initial.inputs l.initial.outputs;
       run = l.initial.run;
-      rejected = l.initial.rejected;
-      found = l.initial.found;
     })
     l.settings.activities
     l.settings.inputs
@@ -26,8 +24,6 @@ invariant-loop-outputs l =
     l.inputs
     l.outputs
     l.run
-    l.rejected
-    l.found
 
 abbrev pub decreases-loop-outputs : goal.decreases-loop-outputs
 decreases-loop-outputs l = length (from l.outputs (sets l.settings.activities l.settings.outputs))

@@ -11,20 +11,16 @@ abbrev pub invariant-loop-inputs : goal.invariant-loop-inputs
 invariant-loop-inputs l =
     InputsLeft
     (record {
-      verdict = verdict l.settings.threshold (frames_of l.text);
-      budget = l.budget;
-      candidates = inputs_from l.settings.activities l.settings.inputs l.outputs l.initial.inputs;
+      verdict = verdict l.search.settings.threshold (frames_of l.search.log.text.now);
+      budget = l.search.budget;
+      candidates = inputs_from l.search.settings.activities l.search.settings.inputs l.outputs l.initial.inputs;
       run = l.initial.run;
-      rejected = l.initial.rejected;
-      found = l.initial.found;
     })
-    l.settings.activities
-    l.settings.inputs
+    l.search.settings.activities
+    l.search.settings.inputs
     l.outputs
     l.inputs
     l.run
-    l.rejected
-    l.found
 
 abbrev pub decreases-loop-inputs : goal.decreases-loop-inputs
-decreases-loop-inputs l = length (inputs_from l.settings.activities l.settings.inputs l.outputs l.inputs)
+decreases-loop-inputs l = length (inputs_from l.search.settings.activities l.search.settings.inputs l.outputs l.inputs)

@@ -1,17 +1,11 @@
--- The pass from where it stands answers what the pass from the first activity answers. The measure
--- is what is left of the text.
+-- What is left of the line decides what the whole line is read as. The measure is its length.
 -- Assumes nothing.
-use Prim.Native.Nat.{◌-◌}
-use mathlib.Core.Path.{◌≡◌}
-use mathlib.Core.Bool.{false}
-use lib.ListN.{length, drop}
-use Rattle.log_lines.specs.declared.Phase.TheVariants.{Before}
-use Rattle.log_lines.proofs.laws.Scan.{scan}
+use lib.ListN.{length}
+use Rattle.log_lines.proofs.laws.Scan.{ReadTo}
 use Rattle.log_lines.proofs.line.read_activities.Given as goal
 
-abbrev pub invariant-loop-at : goal.invariant-loop-at
-invariant-loop-at l =
-    scan l.activities l.at l.phase l.unknown (drop l.at l.text) ≡ scan l.activities l.from Before false (drop l.from l.text)
+abbrev pub invariant-loop-pair : goal.invariant-loop-pair
+invariant-loop-pair l = ReadTo l.activities l.from l.line l.phase l.unknown l.rest
 
-abbrev pub decreases-loop-at : goal.decreases-loop-at
-decreases-loop-at l = length l.text - l.at
+abbrev pub decreases-loop-pair : goal.decreases-loop-pair
+decreases-loop-pair l = length l.rest

@@ -7,11 +7,11 @@ use Rattle.reduction_spec.proofs.laws.Covers.{word_halves}
 use Rattle.reduction_spec.proofs.laws.UnionTests.{redundant_cover}
 use Rattle.reduction.proofs.union.is_redundant.Goals as goal
 
-pub has_cover-requires : goal.has_cover-requires
-has_cover-requires c = (c.requires.0, omega (arith, (word_halves _ c.requires.1).0))
+pub invariant_of-has_cover : goal.invariant_of-has_cover
+invariant_of-has_cover c = record { places = c.requires.places; some_left = omega (arith, (word_halves _ c.requires.place).0) }
 
 pub returns-clause-answer : goal.returns-clause-answer
 returns-clause-answer c =
     let found = c.has_cover.ensures.answer in
-    let same = redundant_cover c.requires.0 c.args.whole c.requires.1 in
+    let same = redundant_cover c.requires.places c.args.whole c.requires.place in
     same_truth (λ e. same.1 (found.0 e)) (λ e. found.1 (same.0 e))

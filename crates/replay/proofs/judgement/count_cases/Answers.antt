@@ -9,53 +9,49 @@ use lib.ListN.{length}
 use Rattle.event_log_spec.specs.Lines.{frames_of}
 use Rattle.event_log.specs.FrameIndex.{frame_at, frames_between}
 use Rattle.event_log.proofs.laws.IndexedFrames.{frame_found}
-use Rattle.event_log.proofs.laws.FrameRanges.{index_length, frames_none, frames_more}
+use Rattle.event_log.proofs.laws.FrameRanges.{frames_none, frames_more}
 use Rattle.replay_spec.specs.Judgement.{case_counts}
 use Rattle.replay.proofs.laws.FrameByFrame.{count_part, counts_none, counts_more}
 use Rattle.replay.proofs.laws.FrameReplay.{frame_digits, cases_fit}
 use Rattle.replay.proofs.judgement.count_cases.Goals as goal
 
 pub loop-frame-init : goal.loop-frame-init
-loop-frame-init c = (
-  omega arith,
-  omega arith,
-  λ place e. rw (frames_none c.args.text.now c.args.from) (sym (counts_none place)),
-)
+loop-frame-init c = (omega arith, rw (frames_none c.args.log.now.text.now c.args.from) (sym (counts_none c.args.place)))
 
 pub replay_trace-tokens-requires : goal.replay_trace-tokens-requires
 replay_trace-tokens-requires c =
-    let found = frame_found c.requires.0 c.loop-frame.frame (omega (arith, c.loop-frame-test.true, c.requires.1)) in
+    let found = frame_found c.args.log.now.indexed c.loop-frame.frame (omega arith) in
     let digits = frame_digits _ found.under in
-    rw c.frame_digits.ensures (digits.short, digits.all_digits)
+    rw c.digits.ensures (digits.short, digits.all_digits)
 
 pub add_cases-requires : goal.add_cases-requires
 add_cases-requires c =
-    let found = frame_found c.requires.0 c.loop-frame.frame (omega (arith, c.loop-frame-test.true, c.requires.1)) in
-    let so_far = case_counts c.args.place (frames_between c.args.from c.loop-frame.frame c.args.text.now) in
-    rw (c.frame_cases-cases.ensures c.args.text.now c.requires.0, c.loop-frame.invariant.2 c.args.place c.digit_sets-sets.ensures)
+    let log = c.args.log.now in
+    let found = frame_found log.indexed c.loop-frame.frame (omega arith) in
+    let so_far = case_counts c.args.place (frames_between c.args.from c.loop-frame.frame log.text.now) in
+    rw (c.cases.ensures, c.loop-frame.invariant.1)
     (omega (
       arith,
       count_part so_far c.replay_trace-tokens.result,
-      cases_fit c.args.place c.requires.0.log c.args.from c.loop-frame.frame _ found.under,
+      cases_fit c.args.place log.indexed.log c.args.from c.loop-frame.frame _ found.under,
     ))
 
 pub loop-frame-preserved : goal.loop-frame-preserved
 loop-frame-preserved c =
-    let text = c.args.text.now in
+    let log = c.args.log.now in
+    let text = log.text.now in
     let frame = c.loop-frame.frame in
-    let found = frame_found c.requires.0 frame (omega (arith, c.loop-frame-test.true, c.requires.1)) in
-    let less : frame < length (frames_of text) = omega (arith, c.loop-frame-test.true, c.requires.1, index_length c.requires.0) in (
-      omega (arith, c.loop-frame.invariant.0),
-      omega (arith, c.loop-frame.invariant.0, c.loop-frame-test.true),
-      λ place e.
-          c.add_cases.ensures
+    let less : frame < length (frames_of text) = omega arith in
+    let found = frame_found log.indexed frame less in (
+      omega arith,
+      c.add_cases.ensures
           ∙ rw (
-            c.replay_trace-tokens.ensures place e,
-            c.frame_digits.ensures,
+            c.replay_trace-tokens.ensures c.args.place c.from-sets.ensures,
+            c.digits.ensures,
             (frame_digits _ found.under).trace,
-            c.frame_cases-cases.ensures text c.requires.0,
-            c.loop-frame.invariant.2 place e,
-            frames_more text c.args.from frame c.loop-frame.invariant.0 less,
+            c.cases.ensures,
+            c.loop-frame.invariant.1,
+            frames_more text c.args.from frame c.loop-frame.auto.frame less,
           )
-          (sym (counts_more place (frames_between c.args.from frame text) (frame_at text frame))),
+          (sym (counts_more c.args.place (frames_between c.args.from frame text) (frame_at text frame))),
     )

@@ -16,6 +16,6 @@ unfolding refusal_line
 returns-clause-text c =
     let r = c.args.refusal in
     let put = line_put c.args.output.now 0xFF (number r) (value r) end_digits end_digits value_digits c.requires in
-    let two = rw c.number_of.ensures at c.write_hex-2.ensures in
-    let three = rw c.value_of.ensures at c.write_hex-3.ensures in
+    let two = rw c.number.ensures at c.write_hex-2.ensures in
+    let three = rw c.value.ensures at c.write_hex-3.ensures in
     put _ _ _ c.write_hex.ensures two three

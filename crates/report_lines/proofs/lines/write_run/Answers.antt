@@ -2,6 +2,7 @@
 -- the visits, and the line feed are the line.
 -- Assumes nothing.
 use Rattle.std.proofs.Common.{sym}
+use Rattle.discovery_spec.specs.Search.{end_number}
 use Rattle.reporter_spec.specs.Program.{end_digits, value_digits}
 use Rattle.report_lines.specs.ProgramLines.{run_line}
 use Rattle.report_lines.proofs.laws.LineParts.{line_put}
@@ -15,5 +16,5 @@ pub returns-clause-text : goal.returns-clause-text
 unfolding run_line
 returns-clause-text c =
     let x = c.args.run in
-    let put = line_put c.args.output.now x.end x.replays x.visits end_digits value_digits value_digits c.requires in
-    put _ _ _ c.write_hex.ensures c.write_hex-2.ensures c.write_hex-3.ensures
+    let put = line_put c.args.output.now (end_number x.end) x.replays x.visits end_digits value_digits value_digits c.requires in
+    put _ _ _ (rw c.number.ensures at c.write_hex.ensures) c.write_hex-2.ensures c.write_hex-3.ensures
