@@ -28,8 +28,8 @@ state_in w =
 abbrev pub room_in : RunState → ℕ → Capacity
 room_in w budget = capacity_of w.rejected.now w.found.now budget
 
--- the buffer `after`, which is the buffer `before` later, holds so many words: these, and then its old
--- tail
+-- the buffer `after`, which is the buffer `before` later, holds so many words: these, and then its
+-- old tail
 pub record Holds (words : List ℕ) (before after : MutBor (List ℕ)) (count : ℕ) : Type 0 where
   pub count_is : count ≡ length words
   pub left : after.now ≡ overwrite words before.now
@@ -53,6 +53,7 @@ unfoldable pub prunes : Progress → Bool
 prunes p = ltb 0 (length (state_of p).pruned)
 
 -- what a candidate's turn that came to the progress p answers, and what it leaves
-pub record Turns (p : Progress) (before : RunState) (answer : Result Descendants End) (after : RunState) : Type 0 where
+pub record Turns (p : Progress) (before : RunState) (answer : Result Descendants End)
+    (after : RunState) : Type 0 where
   pub answered : answer ≡ ended (cond (prunes p) Pruned Searched) p
   pub leaves : Leaves p before after

@@ -1,2 +1,3 @@
 pub mod Arguments
 pub mod Calls
+pub mod Verdicts

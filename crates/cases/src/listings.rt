@@ -1,5 +1,5 @@
 // The calls that search, with and without the reduction of what is found.
-ghost use Rattle.std.specs.Prelude.{◌≡◌, ◌≤◌, option_map};
+ghost use Rattle.std.specs.Prelude.{◌≡◌, ◌≤◌, option_map, replicate};
 ghost use Rattle.cases.specs.Arguments.{resources_in};
 
 use crate::arguments::{room_at, settings_in};
@@ -101,7 +101,12 @@ struct Buffers {
 }
 
 impl Buffers {
-    fn new() -> Self {
+    // All of them as they are filled before a call.
+    fn new() -> Self
+        ensures rejected { result.rejected ≡ replicate CACHE_WORDS CACHE_FILL }
+        ensures found { result.found ≡ replicate LIST_WORDS LIST_FILL }
+        ensures kept { result.kept ≡ replicate LIST_WORDS LIST_FILL }
+    {
         Buffers {
             rejected: [CACHE_FILL; CACHE_WORDS],
             found: [LIST_FILL; LIST_WORDS],

@@ -1,4 +1,7 @@
 // The calls that answer numbers alone: checking a log, replaying its first trace, judging a place.
+ghost use Rattle.std.specs.Prelude.{◌≡◌};
+ghost use Rattle.cases.specs.Verdicts.{verdict_name};
+
 use crate::arguments::place_in;
 use case_notation::fields::word;
 use case_notation::numbers::argument;
@@ -40,7 +43,9 @@ pub fn judge<W: Write>(out: &mut W, line: &[u8], text: &[u8]) -> Option<io::Resu
     })
 }
 
-fn verdict_name(verdict: Verdict) -> &'static str {
+fn verdict_name(verdict: Verdict) -> &'static str
+    ensures { result.now ≡ verdict_name verdict }
+{
     match verdict {
         Verdict::Fitting => "fitting",
         Verdict::Underfed => "underfed",

@@ -40,6 +40,7 @@ abbrev pub outcome : Progress → Result (Unit {0}) End
 outcome p = ended tt p
 
 -- what carrying a run on that came to the progress p answers, and what it leaves
-pub record Carries (p : Progress) (before : RunState) (answer : Result (Unit {0}) End) (after : RunState) : Type 0 where
+pub record Carries (p : Progress) (before : RunState) (answer : Result (Unit {0}) End)
+    (after : RunState) : Type 0 where
   pub answered : answer ≡ outcome p
   pub leaves : Leaves p before after

@@ -27,10 +27,12 @@ pub fn discover(
     rejected: &mut [u64],
     found: &mut [u32],
 ) -> Result<Run, Refusal>
-    ensures answer { result ≡ discovered settings text.now (capacity_of rejected.old found.old budget) }
+    ensures answer { result
+        ≡ discovered settings text.now (capacity_of rejected.old found.old budget) }
     ensures cache { rejected.new ≡ rejected_after settings text.now rejected.old found.old budget }
     ensures list { found.new ≡ found_after settings text.now rejected.old found.old budget }
-    ensures numbered { Numbered (run_refusal settings text.now) (answer_number result) (answer_value result) }
+    ensures numbered { Numbered (run_refusal settings text.now)
+        (answer_number result) (answer_value result) }
     ensures within { replays_in result ≤ budget }
 {
     Refusal::InvalidSetting.unless(settings.are_in_range())?;

@@ -34,7 +34,8 @@ fn search_inputs(search: &Search, run: &mut RunState, candidate: Place) -> Resul
         run.old.visits + length (from candidate.inputs (sets s.activities s.inputs)) < 2 ^ 32 }
     ensures { let s = search.now.settings in
         let inputs = from candidate.inputs (sets s.activities s.inputs) in
-        Carries (carried_on search.now run.old (with_outputs inputs candidate.outputs)) run.old result run.new }
+        Carries (carried_on search.now run.old (with_outputs inputs candidate.outputs))
+        run.old result run.new }
 {
     let outputs = candidate.outputs;
     let mut inputs = candidate.inputs;

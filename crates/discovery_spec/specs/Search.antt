@@ -2,7 +2,8 @@
 -- for what is here: the shelf is the cache of rejected words, the list the found words, the
 -- allowance the replay budget, offspring are descendants, and passed over is pruned.
 -- Assumes nothing.
-use Rattle.std.specs.Prelude.{ℕ, ◌+◌, Bool, true, false, cond, List, [], ◌∷◌, ◌++◌, ltb, leb, length}
+use Rattle.std.specs.Prelude.{ℕ, ◌+◌, Bool, true, false, cond, ltb, leb}
+use Rattle.std.specs.Prelude.{List, [], ◌∷◌, ◌++◌, length}
 use Rattle.foundation.specs.Lists.{any, foldl}
 use Rattle.places.specs.declared.Place.{Place}
 use Rattle.places.specs.Places.{word}

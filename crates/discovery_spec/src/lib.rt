@@ -1,5 +1,5 @@
 // What the search over candidates answers: document 01, "The walk". The search itself is defined in
-// specs/, and its code is in `discovery`. The only code is the number of an end.
+// specs/, and its code is in `discovery`. The only code here is what an end says.
 #![tactic(auto)]
 
 ghost use Rattle.std.specs.Prelude.{◌≡◌};
@@ -35,11 +35,7 @@ impl End {
     pub fn is_completed(self) -> bool
         ensures { result ≡ is_completed self }
     {
-        match self {
-            End::Completed => true,
-            End::BudgetSpent => false,
-            End::ListFull => false,
-        }
+        matches!(self, End::Completed)
     }
 }
 

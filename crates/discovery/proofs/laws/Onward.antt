@@ -103,8 +103,8 @@ module _ {before after : RunState} where
       (aside_alike s.pruned (foldl (step verdict room) again rest))
       (alike_same (sym (ap (λ (t : State). foldl (step verdict room) (going t) rest) back ∙ run_aside s.pruned verdict room again clear)))
 
--- a buffer with so many words that is as long as it was at the start, and of which the tail beyond its
--- words is as it was
+-- a buffer with so many words that is as long as it was at the start, and of which the tail beyond
+-- its words is as it was
 pub record Onward (start now : MutBor (List ℕ)) (count : ℕ) : Type 0 where
   pub same_length : length now.now ≡ length start.now
   pub tail : (words : List ℕ) → count ≤ length words → overwrite words now.now ≡ overwrite words start.now
@@ -144,7 +144,8 @@ module _
         }
         )
 
--- a run at its start: the verdicts and the budget, the candidates, and the counts and the two buffers
+-- a run at its start: the verdicts and the budget, the candidates, and the counts and the two
+-- buffers
 pub record Beginning : Type 0 where
   pub verdict : Place → Verdict
   pub budget : ℕ

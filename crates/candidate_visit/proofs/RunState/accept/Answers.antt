@@ -1,5 +1,5 @@
--- `candidate_visit::RunState::accept` meets its contract: the candidate's word is stored, or the list is
--- full.
+-- `candidate_visit::RunState::accept` meets its contract: the candidate's word is stored, or the
+-- list is full.
 -- Assumes nothing.
 use mathlib.Core.Path.{refl}
 use Rattle.candidate_visit.proofs.laws.Recording.{found_stored, list_full}

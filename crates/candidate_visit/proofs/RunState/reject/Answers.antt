@@ -1,5 +1,5 @@
--- `candidate_visit::RunState::reject` meets its contract: the candidate's word is dropped, or stored, and
--- then it prunes where the candidate is overfed.
+-- `candidate_visit::RunState::reject` meets its contract: the candidate's word is dropped, or
+-- stored, and then it prunes where the candidate is overfed.
 -- Assumes nothing.
 use Rattle.std.proofs.Common.{◌≡◌, ◌+◌, ◌*◌, refl, arith}
 use Rattle.discovery_spec.specs.Rejected.{mark_unit, rejected_word}

@@ -1,5 +1,5 @@
--- `candidate_visit::RunState::visit` meets its contract: the words rule the candidate, or it is left to
--- `replay`.
+-- `candidate_visit::RunState::visit` meets its contract: the words rule the candidate, or it is
+-- left to `replay`.
 -- Assumes nothing.
 use mathlib.Core.Path.{refl, sym}
 use Rattle.rulings.specs.declared.Ruling.TheVariants.{AsUnderfed, AsOverfed}
