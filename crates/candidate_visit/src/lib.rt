@@ -1,15 +1,15 @@
 // One candidate in its turn: document 01, "The walk", the list of what happens to a candidate.
 #![tactic(auto)]
 
-ghost use Rattle.std.specs.Prelude.{◌≡◌, ℕ, ◌+◌, ◌≤◌, ◌<◌, ◌^◌, length, take};
+ghost use Rattle.std.specs.Prelude.{◌≡◌, ℕ, ◌+◌, ◌≤◌, ◌<◌, ◌^◌, None, length, take};
 
-use discovery_spec::{End, MARK_UNIT};
+use discovery_spec::End;
 use event_log::index::IndexedLog;
 use limits::Settings;
 use places::Place;
 use replay::verdict_over;
 use replay_spec::Verdict;
-use rulings::{Ruling, ruling_by};
+use rulings::{Ruling, rejected_word, ruling_by};
 
 // What a search is given and leaves as it is: its settings, the log with its index, and the budget
 // of replays.
@@ -46,7 +46,6 @@ pub enum Descendants {
 impl RunState<'_> {
     ghost use Rattle.event_log_spec.specs.Lines.{frames_of};
     ghost use Rattle.replay_spec.specs.Judgement.{verdict};
-    ghost use Rattle.rulings.specs.declared.Ruling.TheVariants.{Unruled};
     ghost use Rattle.rulings.specs.Rulings.{ruling_of};
     ghost use Rattle.discovery_spec.specs.Search.{accept, reject, replay, visit};
     ghost use Rattle.candidate_visit.specs.Standing.{state_in, room_in, Turns};
@@ -60,7 +59,7 @@ impl RunState<'_> {
 
     // A fitting candidate is found where there is room for its word, and else stops the run.
     fn accept(&mut self, candidate: Place) -> Result<Descendants, End>
-        requires { ruling_of (state_in self.old).rejected candidate ≡ Unruled }
+        requires { ruling_of (state_in self.old).rejected candidate ≡ None }
         ensures { (budget : ℕ) → Turns
             (accept (room_in self.old budget) candidate (state_in self.old))
             self.old result self.new }
@@ -76,7 +75,7 @@ impl RunState<'_> {
     // The word of another candidate goes where there is room among the rejected. Only a word that
     // was kept can prune, and then by its own mark.
     fn reject(&mut self, candidate: Place, verdict: Verdict) -> Descendants
-        requires { ruling_of (state_in self.old).rejected candidate ≡ Unruled }
+        requires { ruling_of (state_in self.old).rejected candidate ≡ None }
         ensures { (budget : ℕ) → Turns
             (reject (room_in self.old budget) verdict candidate (state_in self.old))
             self.old (Ok result) self.new }
@@ -84,8 +83,7 @@ impl RunState<'_> {
         if self.rejected.len() <= self.rejected_count {
             return Descendants::Searched;
         }
-        let word = u64::from(u32::from(candidate)) + MARK_UNIT * u64::from(verdict.mark());
-        self.rejected[self.rejected_count] = word;
+        self.rejected[self.rejected_count] = rejected_word(candidate, verdict);
         self.rejected_count += 1;
         match verdict {
             Verdict::Overfed | Verdict::Both => Descendants::Pruned,
@@ -96,7 +94,7 @@ impl RunState<'_> {
     // A candidate that no word rules: with the budget spent the run stops, and else it is visited
     // and replayed.
     fn replay(&mut self, search: &Search, candidate: Place) -> Result<Descendants, End>
-        requires unruled { ruling_of (state_in self.old).rejected candidate ≡ Unruled }
+        requires unruled { ruling_of (state_in self.old).rejected candidate ≡ None }
         requires countable { self.old.visits + 1 < 2 ^ 32 }
         ensures { let s = search.now in
             let verdict = verdict s.settings.threshold (frames_of s.log.text.now) in
@@ -123,15 +121,15 @@ impl RunState<'_> {
             self.old result self.new }
     {
         match ruling_by(self.rejected_words(), candidate) {
-            Ruling::AsOverfed => {
+            Some(Ruling::AsOverfed) => {
                 self.visits += 1;
                 Ok(Descendants::Pruned)
             }
-            Ruling::AsUnderfed => {
+            Some(Ruling::AsUnderfed) => {
                 self.visits += 1;
                 Ok(Descendants::Searched)
             }
-            Ruling::Unruled => self.replay(search, candidate),
+            None => self.replay(search, candidate),
         }
     }
 }

@@ -5,8 +5,7 @@
 #![tactic(auto)]
 
 ghost use Rattle.std.specs.Prelude.{◌≡◌, length};
-ghost use Rattle.limits.specs.Refusals.{number, answer_number, answer_value};
-ghost use Rattle.limits.specs.Refusals.{value as value_of};
+ghost use Rattle.limits.specs.Refusals.{answer_number, answer_value};
 ghost use Rattle.places.specs.Places.{place};
 ghost use Rattle.event_log_spec.specs.Checking.{checked};
 ghost use Rattle.replay_spec.specs.Answers.{replayed, judged};
@@ -35,38 +34,35 @@ const MINOR: u32 = 0;
 
 const PATCH: u32 = 0;
 
-// The answer of a refused call: the refusal's number, with its value written.
-fn refuse(refusal: Refusal, value: &mut u64) -> u8
-    ensures number { result ≡ number refusal }
-    ensures value { value.new ≡ value_of refusal }
+// What a call answers: the number of its refusal, or 0, with the value beside it written.
+#[tactic(auto, unfolding(limits::specs::Refusals::answer_number, limits::specs::Refusals::answer_value))]
+fn answer<T: Drop>(answer: Result<T, Refusal>, value: &mut u64) -> u8
+    ensures number { result ≡ answer_number answer }
+    ensures value { value.new ≡ answer_value answer }
 {
-    *value = refusal.value() as u64;
-    refusal.number()
-}
-
-// The answer of a call that is not refused, 0, with 0 for its value.
-fn accept(value: &mut u64) -> u8
-    ensures number { result ≡ 0 }
-    ensures value { value.new ≡ 0 }
-{
-    *value = 0;
-    0
+    match answer {
+        Ok(_) => {
+            *value = 0;
+            0
+        }
+        Err(refusal) => {
+            *value = refusal.value() as u64;
+            refusal.number()
+        }
+    }
 }
 
 // The answer of a call that counts words or bytes, with how many they are.
-#[tactic(auto, unfolding(limits::specs::Refusals::answer_number, limits::specs::Refusals::answer_value, crate::specs::Results::count_after))]
-fn answer_count(answer: Result<usize, Refusal>, value: &mut u64, count: &mut u64) -> u8
-    ensures number { result ≡ answer_number answer }
-    ensures value { value.new ≡ answer_value answer }
-    ensures count { count.new ≡ count_after answer count.old }
+#[tactic(auto, unfolding(crate::specs::Results::count_after))]
+fn answer_count(counted: Result<usize, Refusal>, value: &mut u64, count: &mut u64) -> u8
+    ensures number { result ≡ answer_number counted }
+    ensures value { value.new ≡ answer_value counted }
+    ensures count { count.new ≡ count_after counted count.old }
 {
-    match answer {
-        Err(refusal) => refuse(refusal, value),
-        Ok(counted) => {
-            *count = counted as u64;
-            accept(value)
-        }
+    if let Ok(counted) = counted {
+        *count = counted as u64;
     }
+    answer(counted, value)
 }
 
 // The version of the calls and formats, so that a program can ask what it was linked with.
@@ -78,7 +74,7 @@ pub extern "C" fn placelist_version() -> u32
 }
 
 // Checks a log: how many frames and cases it has.
-#[tactic(auto, unfolding(limits::specs::Refusals::answer_number, limits::specs::Refusals::answer_value, crate::specs::Results::sizes_after))]
+#[tactic(auto, unfolding(crate::specs::Results::sizes_after))]
 #[unsafe(no_mangle)]
 pub extern "C" fn placelist_check(
     activities: u8,
@@ -90,17 +86,15 @@ pub extern "C" fn placelist_check(
     ensures value { value.new ≡ answer_value (checked activities text.now) }
     ensures counts { counts.new ≡ sizes_after (checked activities text.now) counts.old }
 {
-    match check_log(activities, text) {
-        Err(refusal) => refuse(refusal, value),
-        Ok(size) => {
-            *counts = [size.frames as u64, size.cases];
-            accept(value)
-        }
+    let checked = check_log(activities, text);
+    if let Ok(size) = &checked {
+        *counts = [size.frames as u64, size.cases];
     }
+    answer(checked, value)
 }
 
 // Replays the first trace of a log on a place: the least and the last balance.
-#[tactic(auto, unfolding(limits::specs::Refusals::answer_number, limits::specs::Refusals::answer_value, crate::specs::Results::least_after, crate::specs::Results::last_after))]
+#[tactic(auto, unfolding(crate::specs::Results::least_after, crate::specs::Results::last_after))]
 #[unsafe(no_mangle)]
 pub extern "C" fn placelist_replay(
     activities: u8,
@@ -119,18 +113,16 @@ pub extern "C" fn placelist_replay(
     ensures last { last.new
         ≡ last_after (replayed activities text.now (place inputs outputs)) last.old }
 {
-    match replay_first_trace(activities, text, Place { inputs, outputs }) {
-        Err(refusal) => refuse(refusal, value),
-        Ok(balances) => {
-            *least = balances.least;
-            *last = balances.last;
-            accept(value)
-        }
+    let replayed = replay_first_trace(activities, text, Place { inputs, outputs });
+    if let Ok(balances) = &replayed {
+        *least = balances.least;
+        *last = balances.last;
     }
+    answer(replayed, value)
 }
 
 // Judges a place over a log at a threshold: the case counts and the verdict.
-#[tactic(auto, unfolding(limits::specs::Refusals::answer_number, limits::specs::Refusals::answer_value, crate::specs::Results::counts_after, crate::specs::Results::verdict_after))]
+#[tactic(auto, unfolding(crate::specs::Results::counts_after, crate::specs::Results::verdict_after))]
 #[unsafe(no_mangle)]
 pub extern "C" fn placelist_judge(
     activities: u8,
@@ -150,20 +142,18 @@ pub extern "C" fn placelist_judge(
     ensures verdict { verdict.new
         ≡ verdict_after (judged activities threshold text.now (place inputs outputs)) verdict.old }
 {
-    match judge_place(activities, threshold, text, Place { inputs, outputs }) {
-        Err(refusal) => refuse(refusal, value),
-        Ok(judgement) => {
-            let cases = judgement.counts;
-            *counts = [cases.fitting, cases.underfed, cases.overfed, cases.both];
-            *verdict = judgement.verdict.mark();
-            accept(value)
-        }
+    let judged = judge_place(activities, threshold, text, Place { inputs, outputs });
+    if let Ok(judgement) = &judged {
+        let cases = judgement.counts;
+        *counts = [cases.fitting, cases.underfed, cases.overfed, cases.both];
+        *verdict = judgement.verdict.mark();
     }
+    answer(judged, value)
 }
 
 // Searches the candidates for the places that a log fits: how the run ended and what it counted,
 // with the words rejected and found.
-#[tactic(auto, unfolding(limits::specs::Refusals::answer_number, limits::specs::Refusals::answer_value, crate::specs::Results::run_after))]
+#[tactic(auto, unfolding(crate::specs::Results::run_after))]
 #[unsafe(no_mangle)]
 pub extern "C" fn placelist_search(
     activities: u8,
@@ -199,19 +189,17 @@ pub extern "C" fn placelist_search(
         outputs: most_outputs,
         threshold,
     };
-    match discover(settings, text, budget, rejected, found) {
-        Err(refusal) => refuse(refusal, value),
-        Ok(done) => {
-            *run = [
-                done.end.number(),
-                done.found as u64,
-                done.rejected as u64,
-                done.replays as u64,
-                done.visits as u64,
-            ];
-            accept(value)
-        }
+    let discovered = discover(settings, text, budget, rejected, found);
+    if let Ok(done) = &discovered {
+        *run = [
+            done.end.number(),
+            done.found as u64,
+            done.rejected as u64,
+            u64::from(done.replays),
+            u64::from(done.visits),
+        ];
     }
+    answer(discovered, value)
 }
 
 // Removes the redundant places from a list: how many words are left, with the words.

@@ -37,6 +37,8 @@ pub record NumberExamples : Type 0 where
   pub much_too_large : number_of 10 (bytes "42949672960") ≡ None
   pub hexadecimal : number_of 16 (bytes "0001FFFF") ≡ Some 131071
   pub no_letters : number_of 10 (bytes "0A") ≡ None
+  pub no_digit : number_of 16 (bytes "1x") ≡ None
+  pub digit_above : number_of 17 (bytes "1x") ≡ Some 33
   pub no_digits : number_of 10 [] ≡ None
   pub argument_read : number_at 2 (bytes "judge 6 419 x") ≡ Some 419
 
@@ -49,6 +51,8 @@ number_examples =
       much_too_large = refl;
       hexadecimal = refl;
       no_letters = refl;
+      no_digit = refl;
+      digit_above = refl;
       no_digits = refl;
       argument_read = refl;
     }

@@ -1,14 +1,18 @@
 -- Numbers of 32 bits in digits.
 -- Assumes nothing.
 use Rattle.std.specs.Prelude.{ℕ, ◌+◌, ◌*◌, ◌^◌, cond, ◌&&◌, Option, Some, None, List, [], ◌∷◌, eqb, ltb, length}
-use Rattle.std.specs.Option.{option_and_then}
+use Rattle.std.specs.Option.{option_and_then, unwrap_or}
 use Rattle.hex_digits.specs.Digits.{digit_of}
 use Rattle.case_notation.specs.Fields.{word_at}
 
--- a number of 32 bits with one digit more
+-- 0 to 9 and A to F, or 16 of a byte that is no hexadecimal digit
+abbrev pub digit_value : ℕ → ℕ
+digit_value byte = unwrap_or (digit_of byte) 16
+
+-- a number of 32 bits with one digit more, whose value is below the base
 abbrev pub longer : ℕ → ℕ → ℕ → Option ℕ
 longer base number byte =
-    option_and_then (λ value. cond (ltb value base && ltb (number * base + value) (2 ^ 32)) (Some (number * base + value)) None) (digit_of byte)
+    let sum = number * base + digit_value byte in cond (ltb (digit_value byte) base && ltb sum (2 ^ 32)) (Some sum) None
 
 -- the number that a number and digits after it make
 unfoldable pub continued : ℕ → ℕ → List ℕ → Option ℕ

@@ -5,11 +5,15 @@ ghost use Rattle.case_notation.specs.Numbers.{longer, number_of, number_at};
 use crate::fields::word;
 use hex_digits::hex::classify;
 
-// A number with one digit more.
+// A number with one digit more: none where the digit is not below the base, or where it needs more
+// than 32 bits. A byte that is no hexadecimal digit counts as 16.
 fn with_digit(number: u32, base: u8, byte: u8) -> Option<u32>
     ensures { result ≡ longer base number byte }
 {
-    let value = classify(byte).filter(|value| *value < base)?;
+    let value = classify(byte).unwrap_or(16);
+    if base <= value {
+        return None;
+    }
     number
         .checked_mul(u32::from(base))?
         .checked_add(u32::from(value))

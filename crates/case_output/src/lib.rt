@@ -1,7 +1,8 @@
 // What is written, to any writer. A write that fails ends it, and its error is returned.
 #![tactic(auto)]
 
-ghost use Rattle.std.specs.Prelude.{◌≤◌, ◌<◌, length};
+ghost use Rattle.std.specs.Prelude.{◌≡◌, ◌≤◌, ◌<◌, length, IfOk};
+ghost use Rattle.std.specs.Borrow.{MutBor};
 
 use case_notation::runs::run_length;
 use limits::Refusal;
@@ -15,10 +16,27 @@ pub fn not_a_case<W: Write>(out: &mut W) -> io::Result<()> {
     writeln!(out, "  not a case")
 }
 
-pub fn refusal<W: Write>(out: &mut W, refusal: Refusal) -> io::Result<()> {
+fn refusal<W: Write>(out: &mut W, refusal: Refusal) -> io::Result<()> {
     let number = refusal.number();
     let value = refusal.value();
     writeln!(out, "  refused {number} at {value}")
+}
+
+// What a call answers, as `write` writes it, or its refusal, of which the contract says nothing.
+pub fn answer_line<W: Write, T, F: FnOnce(&mut W, T) -> io::Result<()>>(
+    out: &mut W,
+    answer: Result<T, Refusal>,
+    write: F,
+) -> io::Result<()>
+    requires { F.IsAlwaysCallable write }
+    ensures { IfOk answer (λ answered. (before after : MutBor W)
+        × F.post write before answered result after
+        × (before.now ≡ out.old) × (after.now ≡ out.new)) }
+{
+    match answer {
+        Ok(answer) => write(out, answer),
+        Err(why) => refusal(out, why),
+    }
 }
 
 // A word that is written in so many hexadecimal digits.
@@ -43,7 +61,7 @@ fn put_word<W: Write, T: Word>(out: &mut W, word: T) -> io::Result<()> {
 }
 
 // How many words from the first on are written together: three or more that are each so much more
-// than the one before, or the first alone.
+// than the one before, or the first alone. Only that these are among the words is promised.
 fn together<T: Word>(words: &[T], step: u64) -> usize
     requires { 0 < length words.now }
     ensures some { 0 < result }
@@ -110,12 +128,10 @@ fn put_equal_bytes<W: Write>(out: &mut W, bytes: &[u8]) -> io::Result<()> {
     Ok(())
 }
 
-// A line of all bytes of a buffer, of which a call says that it wrote so many.
-pub fn text_line<W: Write>(out: &mut W, bytes: &[u8], count: usize) -> io::Result<()> {
+// A line of all bytes of a buffer: those that a call wrote, and the others.
+pub fn text_line<W: Write>(out: &mut W, written: &[u8], others: &[u8]) -> io::Result<()> {
     write!(out, "  text")?;
-    if let Some((written, others)) = bytes.split_at_checked(count) {
-        put_written(out, written)?;
-        put_equal_bytes(out, others)?;
-    }
+    put_written(out, written)?;
+    put_equal_bytes(out, others)?;
     writeln!(out)
 }

@@ -106,10 +106,7 @@ fn run_line<W: Write>(out: &mut W, line: &[u8]) -> io::Result<()> {
     writeln!(out)?;
     match line {
         [] | [b'#', ..] => Ok(()),
-        _ => match run_case(out, line) {
-            Some(done) => done,
-            None => not_a_case(out),
-        },
+        _ => run_case(out, line).unwrap_or_else(|| not_a_case(out)),
     }
 }
 

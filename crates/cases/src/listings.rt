@@ -3,11 +3,11 @@ ghost use Rattle.std.specs.Prelude.{◌≡◌, ◌≤◌, option_map, replicate}
 ghost use Rattle.cases.specs.Arguments.{resources_in};
 
 use crate::arguments::{room_at, settings_in};
-use crate::rewrites::reduced_count;
+use crate::rewrites::kept_line;
 use assurance::{BothListings, list_twice};
 use case_notation::fields::rest;
 use case_notation::numbers::argument;
-use case_output::{LIST_FILL, refusal, words_line};
+use case_output::{LIST_FILL, answer_line, words_line};
 use discovery::discover;
 use discovery_spec::Run;
 use limits::Refusal;
@@ -41,10 +41,7 @@ fn search_lines<W: Write>(
     rejected: &[u64; CACHE_WORDS],
     found: &[u32; SEARCH_WORDS],
 ) -> io::Result<()> {
-    match answer {
-        Ok(run) => run_line(out, run)?,
-        Err(why) => refusal(out, why)?,
-    }
+    answer_line(out, answer, run_line)?;
     words_line(out, "list", found)?;
     words_line(out, "cache", rejected)
 }
@@ -115,14 +112,13 @@ impl Buffers {
     }
 }
 
-fn listing_line<W: Write>(out: &mut W, answer: Result<Listing, Refusal>) -> io::Result<()> {
-    match answer {
-        Ok(Listing::Incomplete(run)) => run_line(out, run),
-        Ok(Listing::Complete { run, reduced }) => {
+fn listing_line<W: Write>(out: &mut W, listing: Listing) -> io::Result<()> {
+    match listing {
+        Listing::Incomplete(run) => run_line(out, run),
+        Listing::Complete { run, reduced } => {
             run_line(out, run)?;
-            reduced_count(out, reduced)
+            answer_line(out, reduced, kept_line)
         }
-        Err(why) => refusal(out, why),
     }
 }
 
@@ -132,7 +128,7 @@ fn listing_lines<W: Write>(
     answer: Result<Listing, Refusal>,
     buffers: &Buffers,
 ) -> io::Result<()> {
-    listing_line(out, answer)?;
+    answer_line(out, answer, listing_line)?;
     words_line(out, "list", &buffers.found)?;
     words_line(out, "cache", &buffers.rejected)?;
     words_line(out, "reduced", &buffers.kept)

@@ -5,7 +5,7 @@ ghost use Rattle.cases.specs.Verdicts.{verdict_name};
 use crate::arguments::place_in;
 use case_notation::fields::word;
 use case_notation::numbers::argument;
-use case_output::refusal;
+use case_output::answer_line;
 use event_log::check_log;
 use event_log_spec::LogSize;
 use replay::{judge_place, replay_first_trace};
@@ -13,23 +13,26 @@ use replay_spec::{Balances, Judgement, Verdict};
 use std::io;
 use std::io::Write;
 
+fn size_line<W: Write>(out: &mut W, size: LogSize) -> io::Result<()> {
+    writeln!(out, "  frames {} cases {}", size.frames, size.cases)
+}
+
 // check A text
 pub fn check<W: Write>(out: &mut W, line: &[u8], text: &[u8]) -> Option<io::Result<()>> {
     let activities = argument(line, 1)?.try_into().ok()?;
-    Some(match check_log(activities, text) {
-        Ok(LogSize { frames, cases }) => writeln!(out, "  frames {frames} cases {cases}"),
-        Err(why) => refusal(out, why),
-    })
+    Some(answer_line(out, check_log(activities, text), size_line))
+}
+
+fn balances_line<W: Write>(out: &mut W, balances: Balances) -> io::Result<()> {
+    writeln!(out, "  least {} last {}", balances.least, balances.last)
 }
 
 // replay A place text
 pub fn replay<W: Write>(out: &mut W, line: &[u8], text: &[u8]) -> Option<io::Result<()>> {
     let activities = argument(line, 1)?.try_into().ok()?;
     let place = place_in(word(line, 2))?;
-    Some(match replay_first_trace(activities, text, place) {
-        Ok(Balances { least, last }) => writeln!(out, "  least {least} last {last}"),
-        Err(why) => refusal(out, why),
-    })
+    let replayed = replay_first_trace(activities, text, place);
+    Some(answer_line(out, replayed, balances_line))
 }
 
 // judge A T place text
@@ -37,10 +40,8 @@ pub fn judge<W: Write>(out: &mut W, line: &[u8], text: &[u8]) -> Option<io::Resu
     let activities = argument(line, 1)?.try_into().ok()?;
     let threshold = argument(line, 2)?.try_into().ok()?;
     let place = place_in(word(line, 3))?;
-    Some(match judge_place(activities, threshold, text, place) {
-        Ok(judgement) => judgement_line(out, judgement),
-        Err(why) => refusal(out, why),
-    })
+    let judged = judge_place(activities, threshold, text, place);
+    Some(answer_line(out, judged, judgement_line))
 }
 
 fn verdict_name(verdict: Verdict) -> &'static str

@@ -1,9 +1,13 @@
 // The calls that write a list again without its redundant places, or as text, and the one that does
 // all of placelist.
+ghost use Rattle.std.specs.Prelude.{◌≡◌, ◌≤◌, IfOk, IfSome};
+ghost use Rattle.case_notation.specs.Fields.{rest_after};
+ghost use Rattle.case_notation.specs.WordLists.{list_meant};
+
 use crate::arguments::room_at;
 use case_notation::fields::rest;
 use case_notation::lists::unfold;
-use case_output::{LIST_FILL, refusal, text_line, words_line};
+use case_output::{LIST_FILL, answer_line, text_line, words_line};
 use limits::Refusal;
 use reduction::reduce;
 use reporter::report_places;
@@ -23,12 +27,9 @@ const TEXT_BYTES: usize = 36900;
 
 const TEXT_FILL: u8 = b'~';
 
-// What a reduction answers.
-pub fn reduced_count<W: Write>(out: &mut W, answer: Result<usize, Refusal>) -> io::Result<()> {
-    match answer {
-        Ok(count) => writeln!(out, "  kept {count}"),
-        Err(why) => refusal(out, why),
-    }
+// How many words a reduction leaves.
+pub fn kept_line<W: Write>(out: &mut W, count: usize) -> io::Result<()> {
+    writeln!(out, "  kept {count}")
 }
 
 fn reduced_lines<W: Write>(
@@ -36,12 +37,14 @@ fn reduced_lines<W: Write>(
     answer: Result<usize, Refusal>,
     kept: &[u32; KEPT_WORDS],
 ) -> io::Result<()> {
-    reduced_count(out, answer)?;
+    answer_line(out, answer, kept_line)?;
     words_line(out, "reduced", kept)
 }
 
 // The list at the end of a line.
-fn list_in<'a>(line: &[u8], list: &'a mut [u32; LIST_ROOM]) -> Option<&'a [u32]> {
+fn list_in<'a>(line: &[u8], list: &'a mut [u32; LIST_ROOM]) -> Option<&'a [u32]>
+    ensures { IfSome result (λ words. words.now ≡ list_meant (rest_after 2 line.now)) }
+{
     let count = unfold(rest(line, 2), list)?;
     Some(&list[..count])
 }
@@ -56,22 +59,22 @@ pub fn reduce_list<W: Write>(out: &mut W, line: &[u8]) -> Option<io::Result<()>>
     Some(reduced_lines(out, answer, &kept))
 }
 
+// How many bytes a call writes.
+fn bytes_line<W: Write>(out: &mut W, count: usize) -> io::Result<()> {
+    writeln!(out, "  bytes {count}")
+}
+
 // What a call that writes a text answers, and the text.
 fn written_lines<W: Write>(
     out: &mut W,
     answer: Result<usize, Refusal>,
     text: &[u8; TEXT_BYTES],
-) -> io::Result<()> {
-    match answer {
-        Ok(count) => {
-            writeln!(out, "  bytes {count}")?;
-            text_line(out, text, count)
-        }
-        Err(why) => {
-            refusal(out, why)?;
-            text_line(out, text, 0)
-        }
-    }
+) -> io::Result<()>
+    requires { IfOk answer (λ count. count ≤ TEXT_BYTES) }
+{
+    answer_line(out, answer, bytes_line)?;
+    let (written, others) = text.split_at(answer.unwrap_or(0));
+    text_line(out, written, others)
 }
 
 // write text list

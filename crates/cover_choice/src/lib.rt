@@ -1,11 +1,12 @@
 // Which activity the search for a cover takes up next: one that the fewest words can cover.
 #![tactic(auto)]
 
-ghost use Rattle.std.specs.Prelude.{◌≡◌, ◌≤◌, ◌<◌};
-ghost use Rattle.reduction_spec.specs.Cover.{usable, input_count, output_count, many_inputs, few_inputs, balanced};
+ghost use Rattle.std.specs.Prelude.{◌≡◌, ◌≤◌, ◌<◌, ◌^◌};
+ghost use Rattle.places.specs.Sets.{has};
+ghost use Rattle.reduction_spec.specs.Cover.{usable, many_inputs, few_inputs, balanced};
 ghost use Rattle.cover_choice.specs.Choosing.{Tallied, Growable, Grown, Counts, Fewest, Chosen};
 
-use places::OUTPUT_UNIT;
+use places::Place;
 
 // How many activities a word can have: 16 inputs and 16 outputs.
 const WORD_ACTIVITIES: u32 = 32;
@@ -60,35 +61,15 @@ impl Remainder<'_> {
         }
     }
 
-    // Whether a word has at least as many inputs for each output as what is left.
-    #[tactic(auto, unfolding(reduction_spec::specs::Cover::many_inputs))]
-    fn has_many_inputs(self, word: u32) -> bool
-        ensures { result ≡ many_inputs self.entry.left word }
-    {
-        inputs_of(self.left) * outputs_of(word) <= inputs_of(word) * outputs_of(self.left)
-    }
-
-    // Whether a word has at most as many.
-    #[tactic(auto, unfolding(reduction_spec::specs::Cover::few_inputs))]
-    fn has_few_inputs(self, word: u32) -> bool
-        ensures { result ≡ few_inputs self.entry.left word }
-    {
-        inputs_of(word) * outputs_of(self.left) <= inputs_of(self.left) * outputs_of(word)
-    }
-
     // Whether the words that can be the next part are not all poorer in inputs for their outputs
     // than what is left, and not all richer. Words that are all of one kind make it up in no way,
     // which else is seen only after every way was tried.
     fn is_balanced(self) -> bool
         ensures { result ≡ balanced self.entry.words.now self.entry.whole self.entry.left }
     {
-        self.words
-            .iter()
-            .any(|&word| self.takes(word) && self.has_many_inputs(word))
-            && self
-                .words
-                .iter()
-                .any(|&word| self.takes(word) && self.has_few_inputs(word))
+        self.words.iter().any(|&word| self.takes(word) && has_as_many_inputs(word, self.left))
+            && self.words.iter().any(|&word| self.takes(word)
+                && has_as_many_inputs(self.left, word))
     }
 
     // For each activity, how many words can be the next part and cover it.
@@ -112,7 +93,7 @@ impl Remainder<'_> {
         ensures { Fewest self.entry.words.now self.entry.whole self.entry.left result }
     {
         let counts = self.count_choices();
-        let mut rarest = self.left.ilog2();
+        let mut rarest = highest(self.left);
         let mut fewest = counts[rarest as usize];
         for activity in 0..WORD_ACTIVITIES {
             let count = counts[activity as usize];
@@ -136,10 +117,10 @@ impl Remainder<'_> {
             return None;
         }
         if tally.twice != self.left {
-            return Some((self.left - tally.twice).ilog2());
+            return Some(highest(self.left - tally.twice));
         }
         if tally.thrice != self.left {
-            return Some((self.left - tally.thrice).ilog2());
+            return Some(highest(self.left - tally.thrice));
         }
         if !self.is_balanced() {
             return None;
@@ -148,20 +129,28 @@ impl Remainder<'_> {
     }
 }
 
-// How many inputs a word has.
-fn inputs_of(word: u32) -> u32
-    ensures count { result ≡ input_count word }
-    ensures few { result ≤ 16 }
+// Whether a word has at least as many inputs for each output as another, which then has at most as
+// many as the word.
+#[tactic(auto, unfolding(places::specs::Places::place_of, reduction_spec::specs::Cover::many_inputs, reduction_spec::specs::Cover::few_inputs))]
+fn has_as_many_inputs(word: u32, other: u32) -> bool
+    ensures many { result ≡ many_inputs other word }
+    ensures few { result ≡ few_inputs word other }
 {
-    (word % OUTPUT_UNIT).count_ones()
+    let place = Place::from(word);
+    let other = Place::from(other);
+    other.inputs.count_ones() * place.outputs.count_ones()
+        <= place.inputs.count_ones() * other.outputs.count_ones()
 }
 
-// How many outputs a word has.
-fn outputs_of(word: u32) -> u32
-    ensures count { result ≡ output_count word }
-    ensures few { result ≤ 16 }
+// The highest activity of a word.
+#[tactic(auto, using(crate::proofs::laws::HighestBit::highest_bit))]
+fn highest(word: u32) -> u32
+    requires { 0 < word }
+    ensures known { result < WORD_ACTIVITIES }
+    ensures part { 2 ^ result ≤ word }
+    ensures has { has word result ≡ 1 }
 {
-    (word / OUTPUT_UNIT).count_ones()
+    word.ilog2()
 }
 
 // Counts each activity of a word once more.
@@ -171,7 +160,7 @@ fn count_word(word: u32, counts: &mut [usize; WORD_ACTIVITIES as usize])
 {
     let mut rest = word;
     while rest != 0 {
-        let activity = rest.ilog2();
+        let activity = highest(rest);
         counts[activity as usize] += 1;
         rest -= 1 << activity;
     }

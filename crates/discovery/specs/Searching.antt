@@ -1,7 +1,7 @@
 -- A run carried on over some candidates, and where it goes on after each. Document 01, "The walk".
 -- Assumes nothing.
 use Rattle.std.specs.Prelude.{ℕ, ◌≤◌, ◌≡◌, List, Result}
-use Rattle.foundation.specs.Lists.{foldl}
+use Rattle.std.specs.List.{fold}
 use Rattle.limits.specs.declared.Settings.{Settings}
 use Rattle.limits.specs.Settings.{most_activities}
 use Rattle.places.specs.declared.Place.{Place}
@@ -30,7 +30,7 @@ next_set Pruned s list = set_past s list
 -- the run carried on over some candidates, from the counts and buffers as they are
 abbrev pub carried_on : Search → RunState → List Place → Progress
 carried_on s w cs =
-    foldl
+    fold
     (step (verdict s.settings.threshold (frames_of s.log.text.now)) (room_in w s.budget))
     (going (state_in w))
     cs

@@ -10,7 +10,7 @@ use crate::search::search_from;
 use candidate_visit::{RunState, Search};
 use discovery_spec::{End, Run};
 use event_log::check_log;
-use event_log::index::index_log;
+use event_log::index::{IndexedFrame, index_log};
 use limits::{Refusal, Settings};
 use log_lines::MOST_FRAMES;
 use places::Place;
@@ -37,7 +37,7 @@ pub fn discover(
 {
     Refusal::InvalidSetting.unless(settings.are_in_range())?;
     check_log(settings.activities, text)?;
-    let mut index = [0u64; MOST_FRAMES];
+    let mut index = [IndexedFrame::default(); MOST_FRAMES];
     let search = Search {
         settings,
         log: index_log(text, &mut index),

@@ -2,7 +2,7 @@
 -- paragraphs: its shelf words and their marks.
 -- Assumes nothing.
 use Rattle.std.specs.Prelude.{ℕ, ◌+◌, ◌*◌, ◌/◌, ◌%◌, Bool, ◌&&◌, ◌||◌, List, eqb}
-use Rattle.foundation.specs.Lists.{any}
+use Rattle.std.specs.List.{list_any}
 use Rattle.places.specs.declared.Place.{Place}
 use Rattle.places.specs.Places.{word, place_of, lighter}
 use Rattle.replay_spec.specs.declared.Verdict.{Verdict}
@@ -34,8 +34,8 @@ rules_overfed c w = (eqb (mark_in w) 2 || eqb (mark_in w) 3) && lighter (place_i
 
 -- ruled overfed by some word of the cache
 unfoldable pub ruled_overfed : List ℕ → Place → Bool
-ruled_overfed rejected c = any (rules_overfed c) rejected
+ruled_overfed rejected c = list_any (rules_overfed c) rejected
 
 -- ruled by some word, either way
 unfoldable pub ruled : List ℕ → Place → Bool
-ruled rejected c = any (rules_underfed c) rejected || ruled_overfed rejected c
+ruled rejected c = list_any (rules_underfed c) rejected || ruled_overfed rejected c

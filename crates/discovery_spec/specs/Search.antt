@@ -4,7 +4,7 @@
 -- Assumes nothing.
 use Rattle.std.specs.Prelude.{ℕ, ◌+◌, Bool, true, false, cond, ltb, leb}
 use Rattle.std.specs.Prelude.{List, [], ◌∷◌, ◌++◌, length}
-use Rattle.foundation.specs.Lists.{any, foldl}
+use Rattle.std.specs.List.{list_any, fold}
 use Rattle.places.specs.declared.Place.{Place}
 use Rattle.places.specs.Places.{word}
 use Rattle.places.specs.Candidates.{descends}
@@ -78,7 +78,7 @@ proceed c s = going (cond (ruled_overfed s.rejected c) (with_pruned c s) s)
 
 -- c is to be passed over, as a descendant of a pruned candidate
 unfoldable pub is_pruned : State → Place → Bool
-is_pruned s c = any (λ (ancestor : Place). descends ancestor c) s.pruned
+is_pruned s c = list_any (λ (ancestor : Place). descends ancestor c) s.pruned
 
 module _ (room : Capacity) where
   -- a fitting candidate is found; where the list is full the run stops with end 2, and the
@@ -114,7 +114,7 @@ module _ (verdict : Place → Verdict) (room : Capacity) where
 
   -- the candidates one after the other, from a fresh run
   unfoldable pub search : List Place → Progress
-  search cs = foldl step (going start) cs
+  search cs = fold step (going start) cs
 
 -- a run that no candidate stopped has end 0
 unfoldable pub end_of : Progress → End

@@ -4,7 +4,8 @@
 -- Assumes nothing.
 use Rattle.std.specs.Prelude.{ℕ, ◌≤◌, ◌≡◌, ◌↔◌, Bool, true, false, length}
 use mathlib.Core.List.{List, ◌++◌, map, Memᴰ}
-use Rattle.foundation.specs.Lists.{Ordered, keep}
+use Rattle.foundation.specs.Lists.{Ordered}
+use Rattle.std.specs.List.{filter}
 use Rattle.limits.specs.declared.Settings.{Settings}
 use Rattle.places.specs.declared.Place.{Place}
 use Rattle.places.specs.Places.{word, place_of}
@@ -32,7 +33,7 @@ module _ (s : Settings) (text : List ℕ) where
 
   -- the fitting candidates in the stated order
   unfoldable pub fitting_candidates : List Place
-  fitting_candidates = keep fits (candidates s)
+  fitting_candidates = filter fits (candidates s)
 
   -- what a run found (listed): its words
   unfoldable pub found_by : Capacity → List ℕ

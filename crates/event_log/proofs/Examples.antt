@@ -2,14 +2,15 @@
 -- Assumes nothing.
 use Rattle.std.specs.Prelude.{drop, None, Some}
 use Rattle.log_lines.specs.Reading.{count_in}
-use Prim.Native.Nat.{ℕ, ◌+◌, ◌*◌}
+use Prim.Native.Nat.{ℕ}
 use mathlib.Core.Path.{◌≡◌, refl}
 use mathlib.Core.List.{List, [], ◌∷◌, map}
 use Rattle.foundation.specs.Text.{bytes}
 use Rattle.event_log_spec.specs.Frames.{Frame}
 use Rattle.event_log_spec.specs.Lines.{frames_of}
 use Rattle.event_log.specs.Stepping.{trace_end}
-use Rattle.event_log.specs.FrameIndex.{word_digits, word_start, word_cases, frame_index, frame_at, frames_between, activity_digits}
+use Rattle.event_log.specs.declared.index.IndexedFrame.{IndexedFrame}
+use Rattle.event_log.specs.FrameIndex.{frame_index, frame_at, frames_between, activity_digits}
 use Rattle.event_log.proofs.Opened.{opened}
 
 abbrev two : List ℕ
@@ -21,12 +22,12 @@ pub record StepExamples : Type 0 where
   pub end : trace_end (bytes "00010001\n01FA0001\n") 13 ≡ 17
   pub no_end : trace_end (bytes "00010") 4 ≡ 6
   -- four digits from byte 4, one case; six from byte 13, 506 cases
-  pub index : frame_index 0 (frames_of two) ≡ (4 + 512 * 4 + 4294967296 * 1) ∷ (6 + 512 * 13 + 4294967296 * 506) ∷ []
-  pub held : let w = 6 + 512 * 13 + 4294967296 * 506 in word_digits w ∷ word_start w ∷ word_cases w ∷ [] ≡ 6 ∷ 13 ∷ 506 ∷ []
+  pub index : map (λ (entry : IndexedFrame). entry.start ∷ entry.digits ∷ entry.cases ∷ []) (frame_index 0 (frames_of two))
+      ≡ (4 ∷ 4 ∷ 1 ∷ []) ∷ (13 ∷ 6 ∷ 506 ∷ []) ∷ []
   pub second : (frame_at two 1).trace ≡ 0 ∷ 2 ∷ 1 ∷ []
   pub second_digits : activity_digits (frame_at two 1) ≡ bytes "000201"
   pub between : map (λ (f : Frame). f.cases) (frames_between 1 2 two) ≡ 506 ∷ []
 
 pub step_examples : StepExamples
 unfolding opened
-step_examples = record { cases = refl; no_cases = refl; end = refl; no_end = refl; index = refl; held = refl; second = refl; second_digits = refl; between = refl }
+step_examples = record { cases = refl; no_cases = refl; end = refl; no_end = refl; index = refl; second = refl; second_digits = refl; between = refl }

@@ -1,12 +1,11 @@
 // The index of a log's frames, made once for all replays: document 01, "Settings and the log". What
-// a word of it holds is known in this file alone.
-ghost use Rattle.std.specs.Prelude.{◌≡◌, ◌/◌, ◌≤◌, ◌<◌, length};
+// an entry of it holds is known in this file alone.
+ghost use Rattle.std.specs.Prelude.{◌≡◌, ◌≤◌, ◌<◌, length};
 ghost use Rattle.foundation.specs.Buffers.{overwrite};
 ghost use Rattle.limits.specs.Settings.{most_activities};
 ghost use Rattle.event_log_spec.specs.Frames.{WrittenLog, most_frames};
 ghost use Rattle.event_log_spec.specs.Lines.{frames_of};
-ghost use Rattle.event_log.specs.FrameIndex.{start_unit, case_unit, index_word, frame_index};
-ghost use Rattle.event_log.specs.FrameIndex.{Indexed, frame_at, activity_digits};
+ghost use Rattle.event_log.specs.FrameIndex.{frame_index, Indexed, frame_at, activity_digits};
 ghost use Rattle.event_log_spec.proofs.laws.OneWay.{log_prop};
 ghost use Rattle.std.proofs.Props.{props};
 
@@ -14,24 +13,26 @@ use crate::frame::trace_end;
 use log_lines::COUNT_DIGITS;
 use log_lines::line::count_at;
 
-// What one byte of a frame's start, and one of its cases, count for in its word. Below the start
-// stands how many activity digits the frame has.
-const START_UNIT: u64 = 512;
+// A frame of a log: where its activity digits start in the text, how many they are, and its cases.
+#[derive(Clone, Copy, Default)]
+pub struct IndexedFrame {
+    start: u32,
+    digits: u16,
+    cases: u16,
+}
 
-const CASE_UNIT: u64 = 4294967296;
-
-// A log that was accepted, and a word for each of its frames, so that nothing has to be looked for
+// A log that was accepted, and an entry for each of its frames, so that nothing has to be looked for
 // or decoded when its traces are replayed again and again.
 #[derive(Clone, Copy)]
 pub struct IndexedLog<'a> {
     pub text: &'a [u8],
-    index: &'a [u64],
+    index: &'a [IndexedFrame],
     pub ghost indexed: { Indexed text.now index.now } by { Prim.hlevel (log_prop, props) },
 }
 
 impl<'a> IndexedLog<'a> {
     // A log with the index that was written for it.
-    pub fn new(text: &'a [u8], index: &'a [u64]) -> Self
+    pub fn new(text: &'a [u8], index: &'a [IndexedFrame]) -> Self
         requires { Indexed text.now index.now }
         ensures { result.text.now ≡ text.now }
     {
@@ -52,7 +53,7 @@ impl<'a> IndexedLog<'a> {
         requires { frame < length (frames_of self.now.text.now) }
         ensures { result ≡ (frame_at self.now.text.now frame).cases }
     {
-        self.index[frame] / CASE_UNIT
+        u64::from(self.index[frame].cases)
     }
 
     // The activity digits of a frame: a part of the log's text.
@@ -61,25 +62,17 @@ impl<'a> IndexedLog<'a> {
         requires { frame < length (frames_of self.now.text.now) }
         ensures { result.now ≡ activity_digits (frame_at self.now.text.now frame) }
     {
-        let word = self.index[frame];
-        let start = (word % CASE_UNIT / START_UNIT) as usize;
-        let end = start + (word % START_UNIT) as usize;
+        let indexed = self.index[frame];
+        let start = indexed.start as usize;
+        let end = start + usize::from(indexed.digits);
         &self.text[start..end]
     }
 }
 
-// The word of a frame.
-fn index_word(digits: usize, start: usize, cases: u64) -> u64
-    requires { (digits < start_unit) × (start < case_unit / start_unit) × (cases < case_unit) }
-    ensures { result ≡ index_word digits start cases }
-{
-    digits as u64 + START_UNIT * start as u64 + CASE_UNIT * cases
-}
-
-// Writes the words of an accepted log's frames from the front of a buffer that has room for as many
-// as a log can have; answers how many there are.
+// Writes the entries of an accepted log's frames from the front of a buffer that has room for as
+// many as a log can have; answers how many there are.
 #[tactic(auto, using(crate::proofs::laws::FrameIndex::frames_stored))]
-pub fn index_frames(text: &[u8], index: &mut [u64]) -> usize
+pub fn index_frames(text: &[u8], index: &mut [IndexedFrame]) -> usize
     requires { WrittenLog most_activities (frames_of text.now) text.now
         × (most_frames ≤ length index.old) }
     ensures count { result ≡ length (frames_of text.now) }
@@ -91,7 +84,11 @@ pub fn index_frames(text: &[u8], index: &mut [u64]) -> usize
         let start = at + COUNT_DIGITS;
         let end = trace_end(text, start);
         let cases = count_at(text, at).unwrap();
-        index[count] = index_word(end - start, start, cases);
+        index[count] = IndexedFrame {
+            start: start as u32,
+            digits: (end - start) as u16,
+            cases: cases as u16,
+        };
         count += 1;
         at = end + 1;
     }
@@ -100,7 +97,7 @@ pub fn index_frames(text: &[u8], index: &mut [u64]) -> usize
 
 // Indexes a log that was accepted, in a buffer that has room for as many frames as a log can have.
 #[tactic(auto, using(crate::proofs::laws::FrameIndex::log_indexed))]
-pub fn index_log<'a>(text: &'a [u8], buffer: &'a mut [u64]) -> IndexedLog<'a>
+pub fn index_log<'a>(text: &'a [u8], buffer: &'a mut [IndexedFrame]) -> IndexedLog<'a>
     requires { WrittenLog most_activities (frames_of text.now) text.now
         × (most_frames ≤ length buffer.old) }
     ensures { result.text.now ≡ text.now }

@@ -2,7 +2,7 @@
 -- and the order of checks in a text and a line.
 -- Assumes nothing.
 use Rattle.std.specs.Prelude.{ℕ, suc, ◌-◌, ◌%◌, Bool, not, ◌||◌, List, [], ◌∷◌, eqb, ltb, leb, length, take, drop, get_or, Option, None, Result}
-use Rattle.foundation.specs.Lists.{all, any}
+use Rattle.std.specs.List.{list_all, list_any}
 use Rattle.limits.specs.declared.Refusal.{Refusal}
 use Rattle.limits.specs.declared.Refusal.TheVariants.{MalformedFrame, UnknownActivity, MisplacedEndpoint, TooLarge, EmptyLog}
 use Rattle.limits.specs.Refusals.{given, first_of, first_refusal, answered}
@@ -18,19 +18,19 @@ malformed l =
     not l.ended
     || eqb (length l.bytes % 2) 1
     || ltb (length l.bytes) shortest_frame
-    || not (all is_digit l.bytes)
+    || not (list_all is_digit l.bytes)
     || eqb (frame_of l).cases 0
 
 -- number 3, stranger
 unfoldable pub names_unknown : ℕ → List ℕ → Bool
-names_unknown A trace = any (leb A) trace
+names_unknown A trace = list_any (leb A) trace
 
 -- number 4, loose ends: a wrong first or last activity, or one of the two endpoints between them
 unfoldable pub endpoint_misplaced : List ℕ → Bool
 endpoint_misplaced trace =
     not (eqb (get_or trace 0 0) 0)
     || not (eqb (get_or trace (length trace - 1) 0) 1)
-    || any (λ (a : ℕ). leb a 1) (take (length trace - 2) (drop 1 trace))
+    || list_any (λ (a : ℕ). leb a 1) (take (length trace - 2) (drop 1 trace))
 
 -- the first fault of a line: 5 (oversize) by its index, 2, 5 by its length, 3, 4
 unfoldable pub line_fault : ℕ → ℕ → Line → Option Refusal

@@ -4,14 +4,13 @@
 #![tactic(auto)]
 
 ghost use Rattle.std.specs.Prelude.{◌≡◌, ◌↔◌, true, ◌-◌, ◌<◌};
-ghost use Rattle.places.specs.Places.{through, place_of};
 ghost use Rattle.reduction_spec.specs.Cover.{Listable, usable, Cover};
-ghost use Rattle.reduction_spec.specs.Props.{Listable-prop};
+ghost use Rattle.reduction_spec.proofs.laws.OneWay.{listable_prop};
 ghost use Rattle.exact_cover.specs.Gathering.{gathered_after};
 
 use crate::parts::gather;
 use cover_choice::Remainder;
-use places::OUTPUT_UNIT;
+use places::Place;
 
 mod parts; // parts.rt: the words that can be parts of what is left
 
@@ -22,16 +21,8 @@ const ROOM: usize = 256;
 #[derive(Clone, Copy)]
 pub struct Uncovered<'a> {
     pub rest: Remainder<'a>,
-    ghost places: { Listable rest.words.now } by { Listable-prop rest.words.now },
+    ghost places: { Listable rest.words.now } by { listable_prop rest.words.now },
     ghost some_left: { 0 < rest.left },
-}
-
-// Whether both inputs and outputs are left.
-#[tactic(auto, unfolding(places::specs::Places::through, places::specs::Places::place_of))]
-fn is_through(left: u32) -> bool
-    ensures { result ≡ through (place_of left) }
-{
-    left % OUTPUT_UNIT != 0 && left / OUTPUT_UNIT != 0
 }
 
 impl Uncovered<'_> {
@@ -89,7 +80,7 @@ impl Uncovered<'_> {
         if left == 0 {
             return true;
         }
-        if !is_through(left) {
+        if !Place::from(left).is_through() {
             return false;
         }
         let rest = Remainder { left, ..self.rest };

@@ -2,7 +2,7 @@ pub mod Booleans
 pub mod Lists
 pub mod Each
 pub mod Any
-pub mod Keeping
+pub mod Filtering
 pub mod Members
 pub mod Sublists
 pub mod Ordered

@@ -1,7 +1,7 @@
--- What a lent buffer holds once words were written from its front: its tail is unchanged.
+-- What a lent buffer holds once items were written from its front: its tail is unchanged.
 -- Assumes nothing.
-use Rattle.std.specs.Prelude.{ℕ, List, ◌++◌, length, drop}
+use Rattle.std.specs.Prelude.{List, ◌++◌, length, drop}
 
--- the words, then what the buffer held beyond them
-abbrev pub overwrite : List ℕ → List ℕ → List ℕ
-overwrite words before = words ++ drop (length words) before
+-- the items, then what the buffer held beyond them
+abbrev pub overwrite : {A : Type 0} → List A → List A → List A
+overwrite items before = items ++ drop (length items) before

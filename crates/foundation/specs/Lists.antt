@@ -1,7 +1,8 @@
--- Words for lists, in their usual meaning, beside the kit's length, take, drop, get_or, map and
--- flat_map.
+-- Words for lists, in their usual meaning, beside the kit's length, take, drop, get_or, map,
+-- flat_map, filter, fold, list_all and list_any.
 -- Assumes nothing.
-use Rattle.std.specs.Prelude.{ℕ, zero, suc, ◌+◌, Bool, true, false, cond, ◌&&◌, ◌||◌, List, [], ◌∷◌, ◌++◌, map}
+use Rattle.std.specs.Prelude.{ℕ, zero, suc, ◌+◌, Bool, true, ◌&&◌, List, [], ◌∷◌, ◌++◌, map}
+use Rattle.std.specs.List.{list_all}
 
 -- P holds of each element
 pub data Each {A : Type 0} (P : A → Type 0) : List A → Type 0 where
@@ -14,30 +15,10 @@ pub data Ordered {A : Type 0} (R : A → A → Type 0) : List A → Type 0 where
   ordered_cons : {x : A} {xs : List A} → Each (R x) xs → Ordered R xs → Ordered R (x ∷ xs)
 
 module _ {A : Type 0} where
-  -- the elements that pass the test, in their order
-  abbrev pub keep : (A → Bool) → List A → List A
-  keep p [] = []
-  keep p (x ∷ xs) = cond (p x) (x ∷ keep p xs) (keep p xs)
-
-  -- every element passes
-  abbrev pub all : (A → Bool) → List A → Bool
-  all p [] = true
-  all p (x ∷ xs) = p x && all p xs
-
-  -- some element passes
-  abbrev pub any : (A → Bool) → List A → Bool
-  any p [] = false
-  any p (x ∷ xs) = p x || any p xs
-
   -- the same by a test
   abbrev pub pairwise : (A → A → Bool) → List A → Bool
   pairwise r [] = true
-  pairwise r (x ∷ xs) = all (r x) xs && pairwise r xs
-
-  -- a state after each element in turn
-  abbrev pub foldl : {S : Type 0} → (S → A → S) → S → List A → S
-  foldl f s [] = s
-  foldl f s (x ∷ xs) = foldl f (f s x) xs
+  pairwise r (x ∷ xs) = list_all (r x) xs && pairwise r xs
 
   -- every choice of elements by their places in the list, each in the list's order
   abbrev pub sublists : List A → List (List A)

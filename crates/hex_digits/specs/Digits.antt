@@ -1,7 +1,7 @@
 -- Hexadecimal digits, read and written. Document 01, "Settings and the log".
 -- Assumes nothing.
 use Rattle.std.specs.Prelude.{ℕ, zero, suc, ◌+◌, ◌-◌, ◌*◌, ◌/◌, ◌%◌, ◌^◌, Bool, cond, ◌&&◌, List, [], ◌∷◌, leb, ltb, length, Option, None, Some, is_some, unwrap_or}
-use Rattle.foundation.specs.Lists.{all}
+use Rattle.std.specs.List.{list_all}
 
 -- the bytes 0 to 9 (48 to 57) have the values 0 to 9, and A to F (65 to 70) the values 10 to 15; any
 -- other byte has none
@@ -24,7 +24,7 @@ read_hex (byte ∷ bytes) = digit_value byte * 16 ^ length bytes + read_hex byte
 
 -- the number that bytes write as digits; none where one of them is no digit
 unfoldable pub number_in : List ℕ → Option ℕ
-number_in bytes = cond (all is_digit bytes) (Some (read_hex bytes)) None
+number_in bytes = cond (list_all is_digit bytes) (Some (read_hex bytes)) None
 
 -- the most digits whose numbers all have 64 bits
 abbrev pub most_digits : ℕ

@@ -80,14 +80,12 @@ impl Refusal {
         ensures { result ≡ value self }
     {
         match self {
-            Refusal::InvalidSetting => 0,
-            Refusal::MalformedFrame { line } => line,
-            Refusal::UnknownActivity { line } => line,
-            Refusal::MisplacedEndpoint { line } => line,
-            Refusal::TooLarge { line } => line,
-            Refusal::EmptyLog => 0,
+            Refusal::MalformedFrame { line }
+            | Refusal::UnknownActivity { line }
+            | Refusal::MisplacedEndpoint { line }
+            | Refusal::TooLarge { line } => line,
             Refusal::InvalidPlace { index } => index,
-            Refusal::BufferTooSmall => 0,
+            Refusal::InvalidSetting | Refusal::EmptyLog | Refusal::BufferTooSmall => 0,
         }
     }
 }
@@ -97,7 +95,7 @@ impl Refusal {
 pub fn bound_in_range(activities: u8) -> bool
     ensures { result ≡ bound_in_range activities }
 {
-    2 <= activities && activities <= MOST_ACTIVITIES
+    (2..=MOST_ACTIVITIES).contains(&activities)
 }
 
 // Whether a threshold is in its range.
@@ -120,5 +118,5 @@ pub fn bound_and_threshold_in_range(activities: u8, threshold: u16) -> bool
 pub fn size_in_range(activities: u8, size: u8) -> bool
     ensures { result ≡ size_in_range activities size }
 {
-    1 <= size && size <= activities
+    (1..=activities).contains(&size)
 }

@@ -34,13 +34,9 @@ pub fn list_places(
         result rejected.new found.new kept.new }
 {
     let run = discover(settings, text, budget, rejected, found)?;
-    let completed = run.end.is_completed();
-    if !completed {
+    if !run.end.is_completed() {
         return Ok(Listing::Incomplete(run));
     }
-    let count = run.found;
-    Ok(Listing::Complete {
-        run,
-        reduced: reduce(&found[0..count], kept),
-    })
+    let reduced = reduce(&found[..run.found], kept);
+    Ok(Listing::Complete { run, reduced })
 }

@@ -5,7 +5,7 @@ use mathlib.Core.Path.{◌≡◌, refl}
 use mathlib.Core.Bool.{true, false}
 use mathlib.Core.List.{[], ◌∷◌}
 use Rattle.foundation.specs.Text.{bytes}
-use Rattle.foundation.specs.Lists.{foldl}
+use Rattle.std.specs.List.{fold}
 use Rattle.limits.specs.declared.Refusal.TheVariants.{MisplacedEndpoint}
 use Rattle.event_log_spec.specs.Lines.{first_line}
 use Rattle.log_lines.specs.declared.Phase.TheVariants.{Before, Inside, Complete, Misplaced}
@@ -16,10 +16,10 @@ pub record LineExamples : Type 0 where
   pub count : count_in (bytes "01FA00") ≡ Some 506
   pub count_zero : count_in (bytes "000001") ≡ None
   pub count_short : count_in (bytes "01F") ≡ None
-  pub complete : foldl next_phase Before (0 ∷ 2 ∷ 5 ∷ 1 ∷ []) ≡ Complete
-  pub unended : foldl next_phase Before (0 ∷ 2 ∷ 5 ∷ []) ≡ Inside
-  pub ended_twice : foldl next_phase Before (0 ∷ 1 ∷ 1 ∷ []) ≡ Misplaced
-  pub started_twice : foldl next_phase Before (0 ∷ 0 ∷ 1 ∷ []) ≡ Misplaced
+  pub complete : fold next_phase Before (0 ∷ 2 ∷ 5 ∷ 1 ∷ []) ≡ Complete
+  pub unended : fold next_phase Before (0 ∷ 2 ∷ 5 ∷ []) ≡ Inside
+  pub ended_twice : fold next_phase Before (0 ∷ 1 ∷ 1 ∷ []) ≡ Misplaced
+  pub started_twice : fold next_phase Before (0 ∷ 0 ∷ 1 ∷ []) ≡ Misplaced
   pub read : activities_in 6 4 (first_line (bytes "000201\n0001")) ≡ Some (activities 10 false false)
   pub unknown : activities_in 2 4 (first_line (bytes "000200\n")) ≡ Some (activities 10 true true)
   pub odd : activities_in 6 4 (first_line (bytes "00020\n")) ≡ None

@@ -2,7 +2,7 @@
 -- once, from its front: its count, then its activities up to the line feed.
 -- Assumes nothing.
 use Rattle.std.specs.Prelude.{ℕ, suc, ◌+◌, ◌%◌, Bool, true, false, cond, not, ◌&&◌, List, eqb, leb, length, take, Option, None, Some, Result}
-use Rattle.foundation.specs.Lists.{all}
+use Rattle.std.specs.List.{list_all}
 use Rattle.limits.specs.declared.Refusal.{Refusal}
 use Rattle.limits.specs.Refusals.{answered}
 use Rattle.log_lines.specs.declared.Activities.{Activities}
@@ -18,7 +18,7 @@ use Rattle.event_log_spec.specs.Checking.{names_unknown, endpoint_misplaced, lin
 unfoldable pub count_in : List ℕ → Option ℕ
 count_in text =
     cond
-    (leb count_digits (length text) && all is_digit (take count_digits text) && not (eqb (read_hex (take count_digits text)) 0))
+    (leb count_digits (length text) && list_all is_digit (take count_digits text) && not (eqb (read_hex (take count_digits text)) 0))
     (Some (read_hex (take count_digits text)))
     None
 
@@ -39,7 +39,7 @@ incomplete Misplaced = true
 
 -- a line that ends and has two digits for each activity
 unfoldable pub in_pairs : Line → Bool
-in_pairs l = l.ended && eqb (length l.bytes % 2) 0 && all is_digit l.bytes
+in_pairs l = l.ended && eqb (length l.bytes % 2) 0 && list_all is_digit l.bytes
 
 -- activities that end at a line feed there, and whether they have a fault
 abbrev pub activities : ℕ → Bool → Bool → Activities

@@ -4,7 +4,7 @@
 pub mod line; // line.rt: checking a line
 
 // The byte that ends a line.
-pub const LINE_FEED: u8 = 10;
+pub const LINE_FEED: u8 = b'\n';
 
 // The digits of a case count, and of an activity code.
 pub const COUNT_DIGITS: usize = 4;

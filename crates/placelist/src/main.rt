@@ -16,9 +16,7 @@ fn write_report(rt: &HostRuntime, input: &[u8]) {
     match report_places(input, &mut output) {
         Ok(count) => {
             if rt.write_all(&output[..count]).is_err() {
-                let _ = rt
-                    .stderr()
-                    .write_all(b"placelist: standard output could not be written\n");
+                let _ = eprintln!(rt; "placelist: standard output could not be written");
             }
         }
         // never so: the buffer takes the longest output
@@ -31,9 +29,7 @@ fn main(rt: HostRuntime) {
     match read_full(&mut rt.stdin(), &mut bytes) {
         Ok(count) => write_report(&rt, &bytes[..count]),
         Err(_) => {
-            let _ = rt
-                .stderr()
-                .write_all(b"placelist: standard input could not be read\n");
+            let _ = eprintln!(rt; "placelist: standard input could not be read");
         }
     }
 }

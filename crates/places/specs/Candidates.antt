@@ -3,7 +3,7 @@
 -- Assumes nothing.
 use Rattle.std.specs.Prelude.{ℕ, zero, suc, ◌+◌, ◌*◌, Bool, not, ◌&&◌, eqb, ltb, leb, length}
 use mathlib.Core.List.{List, [], ◌∷◌, ◌++◌, map, flat_map}
-use Rattle.foundation.specs.Lists.{keep, all}
+use Rattle.std.specs.List.{filter, list_all}
 use Rattle.limits.specs.declared.Settings.{Settings}
 use Rattle.places.specs.declared.Place.{Place}
 use Rattle.places.specs.Sets.{member, codes, size, within}
@@ -43,14 +43,14 @@ candidates s =
 
 -- the codes of j that are not in i
 unfoldable pub added : ℕ → ℕ → List ℕ
-added i j = keep (λ (a : ℕ). not (member i a)) (codes j)
+added i j = filter (λ (a : ℕ). not (member i a)) (codes j)
 
 -- j has all codes of i and at least one more, and each of the new ones is above all of i
 unfoldable pub extends : ℕ → ℕ → Bool
 extends i j =
     within i j
     && ltb 0 (length (added i j))
-    && all (λ (a : ℕ). all (λ (b : ℕ). ltb b a) (codes i)) (added i j)
+    && list_all (λ (a : ℕ). list_all (λ (b : ℕ). ltb b a) (codes i)) (added i j)
 
 -- the candidate d is a descendant of c, one of its offspring in document 01
 unfoldable pub descends : Place → Place → Bool

@@ -2,7 +2,8 @@
 -- trace".
 -- Assumes nothing.
 use Rattle.std.specs.Prelude.{ℕ, ◌/◌, ◌%◌, ◌^◌, Bool, not, ◌||◌, List, map, eqb, length}
-use Rattle.foundation.specs.Lists.{keep, all, any, sum, up_to}
+use Rattle.foundation.specs.Lists.{sum, up_to}
+use Rattle.std.specs.List.{filter, list_all, list_any}
 use Rattle.limits.specs.Settings.{most_activities}
 
 -- how often code a stands in the set s: once or not at all
@@ -15,7 +16,7 @@ member s a = eqb (has s a) 1
 
 -- the set's codes in ascending order
 unfoldable pub codes : ℕ → List ℕ
-codes s = keep (member s) (up_to most_activities)
+codes s = filter (member s) (up_to most_activities)
 
 -- how many codes the set has
 unfoldable pub size : ℕ → ℕ
@@ -23,12 +24,12 @@ size s = length (codes s)
 
 -- every code of s is one of t
 unfoldable pub within : ℕ → ℕ → Bool
-within s t = all (member t) (codes s)
+within s t = list_all (member t) (codes s)
 
 -- no code of s is one of t
 unfoldable pub disjoint : ℕ → ℕ → Bool
-disjoint s t = not (any (member t) (codes s))
+disjoint s t = not (list_any (member t) (codes s))
 
 -- the codes of s and of t together
 unfoldable pub union : ℕ → ℕ → ℕ
-union s t = sum (map (λ (a : ℕ). 2 ^ a) (keep (λ (a : ℕ). member s a || member t a) (up_to most_activities)))
+union s t = sum (map (λ (a : ℕ). 2 ^ a) (filter (λ (a : ℕ). member s a || member t a) (up_to most_activities)))

@@ -4,7 +4,7 @@
 -- Assumes nothing.
 use Rattle.std.specs.Prelude.{ℕ, cond, not, eqb, drop}
 use mathlib.Core.List.{List, [], ◌∷◌, ◌++◌, map, flat_map}
-use Rattle.foundation.specs.Lists.{keep}
+use Rattle.std.specs.List.{filter}
 use Rattle.limits.specs.declared.Settings.{Settings}
 use Rattle.places.specs.declared.Place.{Place}
 use Rattle.places.specs.Places.{place}
@@ -26,7 +26,7 @@ set_after s list = first_set (drop 1 (from s list))
 
 -- the first set after s that is not s with codes added above its own
 unfoldable pub set_past : ℕ → List ℕ → ℕ
-set_past s list = first_set (keep (λ (t : ℕ). not (extends s t)) (drop 1 (from s list)))
+set_past s list = first_set (filter (λ (t : ℕ). not (extends s t)) (drop 1 (from s list)))
 
 -- the places of some input sets with the outputs o
 abbrev pub with_outputs : List ℕ → ℕ → List Place

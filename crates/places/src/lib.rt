@@ -3,7 +3,7 @@
 #![tactic(auto)]
 
 ghost use Rattle.std.specs.Prelude.{◌≡◌};
-ghost use Rattle.places.specs.Places.{below, place_under, word, place_of};
+ghost use Rattle.places.specs.Places.{below, through, place_under, word, place_of};
 
 pub mod list; // list.rt: lists of places by their words
 
@@ -26,13 +26,20 @@ pub fn below_bound(activities: u8, set: u16) -> bool
 }
 
 impl Place {
+    // Whether this is a through place: it has inputs and outputs (Definition 3).
+    #[tactic(auto, unfolding(crate::specs::Places::through))]
+    pub fn is_through(self) -> bool
+        ensures { result ≡ through self }
+    {
+        self.inputs != 0 && self.outputs != 0
+    }
+
     // Whether this is a through place under an activity bound.
-    #[tactic(auto, unfolding(crate::specs::Places::place_under, crate::specs::Places::through))]
+    #[tactic(auto, unfolding(crate::specs::Places::place_under))]
     pub fn is_under(self, activities: u8) -> bool
         ensures { result ≡ place_under activities self }
     {
-        self.inputs != 0
-            && self.outputs != 0
+        self.is_through()
             && below_bound(activities, self.inputs)
             && below_bound(activities, self.outputs)
     }
@@ -44,7 +51,7 @@ impl From<Place> for u32 {
 
     #[tactic(auto, unfolding(crate::specs::Places::word))]
     fn from(place: Place) -> Self {
-        place.inputs as u32 + OUTPUT_UNIT * place.outputs as u32
+        u32::from(place.inputs) + OUTPUT_UNIT * u32::from(place.outputs)
     }
 }
 

@@ -1,6 +1,6 @@
 // Lists of places by their words: document 01, refusals 7 and 8 of a call that takes a list and no
 // settings.
-ghost use Rattle.std.specs.Prelude.{◌≡◌, not};
+ghost use Rattle.std.specs.Prelude.{◌≡◌, not, length, ltb};
 ghost use Rattle.std.specs.List.{position};
 ghost use Rattle.limits.specs.Refusals.{answered};
 ghost use Rattle.limits.specs.Settings.{most_activities};
@@ -23,12 +23,14 @@ pub fn first_invalid(words: &[u32]) -> Option<usize>
     words.iter().position(|&word| is_invalid(word))
 }
 
-// The checks of a list, and of the buffer that a call is lent with it, which has room or not.
-pub fn check_words(words: &[u32], has_room: bool) -> Result<(), Refusal>
-    ensures { result ≡ answered (words_refusal words.now (not has_room)) tt }
+// The checks of a list, and of the buffer that a call is lent with it, which has room for so many
+// words.
+#[tactic(auto, using(crate::proofs::laws::ListFaults::list_checks))]
+pub fn check_words(words: &[u32], room: usize) -> Result<(), Refusal>
+    ensures { result ≡ answered (words_refusal words.now (ltb room (length words.now))) tt }
 {
     if let Some(index) = first_invalid(words) {
         return Err(Refusal::InvalidPlace { index });
     }
-    Refusal::BufferTooSmall.unless(has_room)
+    Refusal::BufferTooSmall.unless(words.len() <= room)
 }

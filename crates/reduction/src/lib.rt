@@ -45,6 +45,6 @@ pub fn reduce(words: &[u32], kept: &mut [u32]) -> Result<usize, Refusal>
         (reduction_refusal words.now (length kept.old))
         (answer_number result) (answer_value result) }
 {
-    check_words(words, words.len() <= kept.len())?;
+    check_words(words, kept.len())?;
     Ok(keep_irredundant(words, kept))
 }

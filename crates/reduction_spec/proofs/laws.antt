@@ -10,3 +10,4 @@ pub mod CoverChoices
 pub mod UnionTests
 pub mod Reducing
 pub mod Repeats
+pub mod OneWay

@@ -7,7 +7,8 @@ use Rattle.std.specs.Prelude.{ℕ, ◌-◌, ◌*◌, ◌/◌, ◌%◌, ◌≡◌
 use mathlib.Core.List.{List, Memᴰ}
 use Rattle.std.specs.Int.Bits.{bit_and}
 use Rattle.std.specs.Int.Count.{ones}
-use Rattle.foundation.specs.Lists.{Each, any, keep}
+use Rattle.foundation.specs.Lists.{Each}
+use Rattle.std.specs.List.{list_any, filter}
 use Rattle.limits.specs.Settings.{most_activities}
 use Rattle.places.specs.Sets.{member}
 use Rattle.places.specs.Places.{output_unit, place_of, place_under}
@@ -28,11 +29,11 @@ pub data Cover (words : List ℕ) (whole : ℕ) : ℕ → Type 0 where
 
 -- the words of the list that can be parts of what is left of a whole
 unfoldable pub parts_of : List ℕ → ℕ → ℕ → List ℕ
-parts_of words whole left = keep (usable whole left) words
+parts_of words whole left = filter (usable whole left) words
 
 -- how many words of the list can be the next part and cover an activity
 unfoldable pub choices : List ℕ → ℕ → ℕ → ℕ → ℕ
-choices words whole left activity = length (keep (λ (w : ℕ). usable whole left w && member w activity) words)
+choices words whole left activity = length (filter (λ (w : ℕ). usable whole left w && member w activity) words)
 
 -- how many inputs and outputs a word has
 abbrev pub input_count : ℕ → ℕ
@@ -52,4 +53,4 @@ few_inputs left w = leb (input_count w * output_count left) (input_count left * 
 -- all too many
 unfoldable pub balanced : List ℕ → ℕ → ℕ → Bool
 balanced words whole left =
-    any (λ (w : ℕ). usable whole left w && many_inputs left w) words && any (λ (w : ℕ). usable whole left w && few_inputs left w) words
+    list_any (λ (w : ℕ). usable whole left w && many_inputs left w) words && list_any (λ (w : ℕ). usable whole left w && few_inputs left w) words

@@ -1,4 +1,3 @@
 pub mod Unions
 pub mod Cover
 pub mod Reduction
-pub mod Props

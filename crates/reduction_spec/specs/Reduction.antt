@@ -2,7 +2,7 @@
 -- Document 01, "Thinning and writing", thinning.
 -- Assumes nothing.
 use Rattle.std.specs.Prelude.{ℕ, Bool, not, List, ltb, length, Option, Result}
-use Rattle.foundation.specs.Lists.{keep}
+use Rattle.std.specs.List.{filter}
 use Rattle.foundation.specs.Buffers.{overwrite}
 use Rattle.limits.specs.declared.Refusal.{Refusal}
 use Rattle.limits.specs.Refusals.{answer, answered}
@@ -16,7 +16,7 @@ redundant words w = is_union words (place_of w)
 
 -- the words that are kept, in their order
 unfoldable pub reduced_words : List ℕ → List ℕ
-reduced_words words = keep (λ (w : ℕ). not (redundant words w)) words
+reduced_words words = filter (λ (w : ℕ). not (redundant words w)) words
 
 -- the second buffer is to have room for the whole list
 unfoldable pub reduction_refusal : List ℕ → ℕ → Option Refusal

@@ -4,7 +4,8 @@
 -- Assumes nothing.
 use Rattle.std.specs.Prelude.{ℕ, ◌≤◌, ◌≡◌, Bool, true, ◌&&◌, eqb, leb, length}
 use mathlib.Core.List.{List, [], ◌∷◌, map, Memᴰ}
-use Rattle.foundation.specs.Lists.{Each, any, pairwise, sublists}
+use Rattle.foundation.specs.Lists.{Each, pairwise, sublists}
+use Rattle.std.specs.List.{list_any}
 use Rattle.places.specs.declared.Place.{Place}
 use Rattle.places.specs.Places.{place, place_of, non_overlapping, join}
 
@@ -31,4 +32,4 @@ compose p parts = leb 2 (length parts) && pairwise non_overlapping parts && same
 
 -- the same as a test: some choice of the list's places composes p
 unfoldable pub is_union : List ℕ → Place → Bool
-is_union words p = any (compose p) (sublists (map place_of words))
+is_union words p = list_any (compose p) (sublists (map place_of words))

@@ -19,7 +19,7 @@ const VERDICTS: usize = 4;
 fn verdict_number(underfed: bool, overfed: bool) -> usize
     ensures { (result ≡ mark (verdict_where underfed overfed)) × (result < verdicts) }
 {
-    underfed as usize + 2 * overfed as usize
+    usize::from(underfed) + 2 * usize::from(overfed)
 }
 
 // Adds the cases of one more trace to one of the four counts, by the signs of its least and its last
@@ -60,7 +60,7 @@ fn share_exceeds(threshold: u16, total: u64, cases: u64) -> bool
     requires { (threshold ≤ 1000) × (cases ≤ total) × (total < 2 ^ 54) }
     ensures { result ≡ exceeds threshold total cases }
 {
-    (threshold as u64) * total < 1000 * cases
+    u64::from(threshold) * total < 1000 * cases
 }
 
 // The verdict on a place from its four case counts, which add up to all cases.

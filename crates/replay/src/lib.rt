@@ -13,7 +13,7 @@ ghost use Rattle.replay.specs.Replaying.{place_and_text_checked};
 
 use crate::judgement::{count_cases, verdict_on};
 use event_log::check_text;
-use event_log::index::{IndexedLog, first_digits, index_log};
+use event_log::index::{IndexedFrame, IndexedLog, first_digits, index_log};
 use event_log_spec::LogSize;
 use limits::{Refusal, bound_and_threshold_in_range, bound_in_range};
 use log_lines::MOST_FRAMES;
@@ -85,7 +85,7 @@ pub fn judge_place(
 {
     Refusal::InvalidSetting.unless(bound_and_threshold_in_range(activities, threshold))?;
     check_place_and_text(activities, text, place)?;
-    let mut buffer = [0u64; MOST_FRAMES];
+    let mut buffer = [IndexedFrame::default(); MOST_FRAMES];
     let log = index_log(text, &mut buffer);
     Ok(judge(threshold, &log, place))
 }

@@ -2,7 +2,7 @@
 -- Definition 13 with its strict comparison.
 -- Assumes nothing.
 use Rattle.std.specs.Prelude.{ℕ, ◌+◌, ◌*◌, Bool, true, false, not, ◌&&◌, List, ltb}
-use Rattle.foundation.specs.Lists.{keep}
+use Rattle.std.specs.List.{filter}
 use Rattle.places.specs.declared.Place.{Place}
 use Rattle.event_log_spec.specs.Frames.{Frame, total_cases}
 use Rattle.replay_spec.specs.declared.CaseCounts.{CaseCounts}
@@ -12,7 +12,7 @@ use Rattle.replay_spec.specs.Balance.{underfeeds, overfeeds}
 
 -- the cases of the frames whose trace passes the test
 unfoldable pub cases_where : (List ℕ → Bool) → List Frame → ℕ
-cases_where test frames = total_cases (keep (λ (f : Frame). test f.trace) frames)
+cases_where test frames = total_cases (filter (λ (f : Frame). test f.trace) frames)
 
 -- the four case counts: of the frames that do neither, only the one, only the other, both
 unfoldable pub case_counts : Place → List Frame → CaseCounts

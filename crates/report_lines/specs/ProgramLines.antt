@@ -2,7 +2,7 @@
 -- input, and the last line from what a run answers. Document 01, "Thinning and writing", last
 -- paragraph.
 -- Assumes nothing.
-use Rattle.std.specs.Prelude.{ℕ, cond, List, [], ◌∷◌, ◌++◌, Option, None, Some}
+use Rattle.std.specs.Prelude.{ℕ, cond, List, [], ◌∷◌, ◌++◌, flat_map, Option, None, Some}
 use Rattle.limits.specs.declared.Settings.{Settings}
 use Rattle.hex_digits.specs.Digits.{write_hex, line_feed}
 use Rattle.discovery_spec.specs.declared.Run.{Run}
@@ -16,3 +16,10 @@ settings_frame_in input = cond (settings_malformed input) None (Some (settings_i
 -- the last line, from what a run answers: its end, its replays, its visits
 unfoldable pub run_line : Run → List ℕ
 run_line x = write_hex end_digits (end_number x.end) ++ write_hex value_digits x.replays ++ write_hex value_digits x.visits ++ (line_feed ∷ [])
+
+-- numbers, each in so many digits and behind the one before, and a line feed
+abbrev pub field_text : ℕ × ℕ → List ℕ
+field_text field = write_hex field.1 field.0
+
+unfoldable pub fields_line : List (ℕ × ℕ) → List ℕ
+fields_line fields = flat_map field_text fields ++ (line_feed ∷ [])

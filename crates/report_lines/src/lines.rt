@@ -3,57 +3,69 @@ ghost use Rattle.std.specs.Prelude.{◌≡◌, ◌++◌, ◌+◌, ◌*◌, ◌�
 ghost use Rattle.foundation.specs.Buffers.{overwrite};
 ghost use Rattle.writer.specs.Writing.{line_bytes, list_text};
 ghost use Rattle.reporter_spec.specs.Program.{refusal_line, refusal_bytes, result_bytes};
-ghost use Rattle.report_lines.specs.ProgramLines.{run_line};
+ghost use Rattle.report_lines.specs.ProgramLines.{fields_line, run_line};
 
-use crate::{END_DIGITS, RUN_BYTES, RUN_DIGITS, VALUE_DIGITS};
+use crate::{END_DIGITS, VALUE_DIGITS};
 use discovery_spec::Run;
 use hex_digits::hex::write_hex;
 use limits::Refusal;
 use log_lines::LINE_FEED;
 use writer::write_lines;
 
-// The line of a refusal: where the digits of its number and of its value begin, its digits, and its
-// bytes with the line feed.
-const NUMBER_AT: usize = END_DIGITS;
-
-const VALUE_AT: usize = 2 * END_DIGITS;
-
-const REFUSAL_DIGITS: usize = VALUE_AT + VALUE_DIGITS;
-
-const REFUSAL_BYTES: usize = REFUSAL_DIGITS + 1;
-
-// The last line: where the digits of the replays and of the visits begin.
-const REPLAYS_AT: usize = END_DIGITS;
-
-const VISITS_AT: usize = REPLAYS_AT + VALUE_DIGITS;
+// Writes numbers, each in so many digits and behind the one before, and a line feed, and answers how
+// many bytes that is.
+fn write_fields(fields: &[(u64, usize)], output: &mut [u8]) -> usize
+    requires { length (fields_line fields.now) ≤ length output.old }
+    ensures count { result ≡ length (fields_line fields.now) }
+    ensures text { output.new ≡ overwrite (fields_line fields.now) output.old }
+{
+    let mut at = 0;
+    for (number, digits) in fields {
+        let next = at + *digits;
+        write_hex(*number, &mut output[at..next]);
+        at = next;
+    }
+    output[at] = LINE_FEED;
+    at + 1
+}
 
 // Writes the line of a refusal, and answers its bytes: FF, its number, its value, a line feed.
+#[tactic(auto, using(crate::proofs::laws::LineLengths::length_three, crate::proofs::laws::LineLengths::length_refusal, crate::proofs::laws::LineLengths::refusal_fields))]
 pub fn write_refusal(refusal: Refusal, output: &mut [u8]) -> usize
     requires { refusal_bytes ≤ length output.old }
     ensures count { result ≡ length (refusal_line refusal) }
     ensures text { output.new ≡ overwrite (refusal_line refusal) output.old }
 {
-    write_hex(0xFF, &mut output[0..NUMBER_AT]);
-    write_hex(refusal.number() as u64, &mut output[NUMBER_AT..VALUE_AT]);
-    write_hex(
-        refusal.value() as u64,
-        &mut output[VALUE_AT..REFUSAL_DIGITS],
-    );
-    output[REFUSAL_DIGITS] = LINE_FEED;
-    REFUSAL_BYTES
+    let number = u64::from(refusal.number());
+    let value = refusal.value() as u64;
+    write_fields(
+        &[
+            (0xFF, END_DIGITS),
+            (number, END_DIGITS),
+            (value, VALUE_DIGITS),
+        ],
+        output,
+    )
 }
 
 // Writes the last line, and answers its bytes: the end, the replays, the visits, a line feed.
+#[tactic(auto, using(crate::proofs::laws::LineLengths::length_three, crate::proofs::laws::LineLengths::length_run, crate::proofs::laws::LineLengths::run_fields))]
 fn write_run(run: Run, output: &mut [u8]) -> usize
     requires { result_bytes ≤ length output.old }
     ensures count { result ≡ length (run_line run) }
     ensures text { output.new ≡ overwrite (run_line run) output.old }
 {
-    write_hex(run.end.number(), &mut output[0..REPLAYS_AT]);
-    write_hex(run.replays as u64, &mut output[REPLAYS_AT..VISITS_AT]);
-    write_hex(run.visits as u64, &mut output[VISITS_AT..RUN_DIGITS]);
-    output[RUN_DIGITS] = LINE_FEED;
-    RUN_BYTES
+    let end = run.end.number();
+    let replays = u64::from(run.replays);
+    let visits = u64::from(run.visits);
+    write_fields(
+        &[
+            (end, END_DIGITS),
+            (replays, VALUE_DIGITS),
+            (visits, VALUE_DIGITS),
+        ],
+        output,
+    )
 }
 
 // Writes a list and the last line, and answers their bytes.

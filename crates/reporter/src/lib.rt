@@ -2,7 +2,7 @@
 // paragraph.
 #![tactic(auto)]
 
-ghost use Rattle.std.specs.Prelude.{◌≡◌, ◌≤◌, length};
+ghost use Rattle.std.specs.Prelude.{◌≡◌, ◌≤◌, length, IfOk};
 ghost use Rattle.foundation.specs.Buffers.{overwrite};
 ghost use Rattle.limits.specs.Refusals.{Numbered, answer_number, answer_value};
 ghost use Rattle.reporter_spec.specs.Program.{placelist};
@@ -81,6 +81,7 @@ fn report_input(input: &[u8], output: &mut [u8]) -> usize
 pub fn report_places(input: &[u8], output: &mut [u8]) -> Result<usize, Refusal>
     ensures answer { result ≡ reported input.now (length output.old) }
     ensures output { output.new ≡ output_after input.now output.old }
+    ensures within { IfOk result (λ count. count ≤ length output.old) }
     ensures numbered { Numbered (reporting_refusal (length output.old)) (answer_number result) (answer_value result) }
 {
     Refusal::BufferTooSmall.unless(MOST_OUTPUT <= output.len())?;

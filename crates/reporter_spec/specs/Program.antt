@@ -2,7 +2,7 @@
 -- "Thinning and writing", last paragraph.
 -- Assumes nothing.
 use Rattle.std.specs.Prelude.{ℕ, ◌+◌, ◌*◌, Bool, not, cond, ◌&&◌, List, [], ◌∷◌, ◌++◌, eqb, ltb, length, get_or, take, drop, Option}
-use Rattle.foundation.specs.Lists.{all}
+use Rattle.std.specs.List.{list_all}
 use Rattle.limits.specs.declared.Refusal.{Refusal}
 use Rattle.limits.specs.declared.Refusal.TheVariants.{InvalidSetting, TooLarge}
 use Rattle.limits.specs.declared.Settings.{Settings}
@@ -37,7 +37,7 @@ settings_digits = 3 * bound_digits + threshold_digits
 
 -- the settings frame, the first line: the digits of A, mi, mo and T, a line feed
 unfoldable pub settings_malformed : List ℕ → Bool
-settings_malformed input = not (all is_digit (take settings_digits input) && eqb (get_or input settings_digits 0) line_feed)
+settings_malformed input = not (list_all is_digit (take settings_digits input) && eqb (get_or input settings_digits 0) line_feed)
 
 -- the settings that it writes
 unfoldable pub settings_in : List ℕ → Settings

@@ -3,7 +3,7 @@
 
 ghost use Rattle.std.specs.Prelude.{◌≡◌, ◌*◌, ◌≤◌, length, true};
 ghost use Rattle.std.specs.Int.Signed.{mag};
-ghost use Rattle.foundation.specs.Lists.{all};
+ghost use Rattle.std.specs.List.{list_all};
 ghost use Rattle.hex_digits.specs.Digits.{is_digit};
 ghost use Rattle.places.specs.declared.Place.{Place};
 ghost use Rattle.event_log_spec.specs.Frames.{most_events};
@@ -16,7 +16,7 @@ use places::Place;
 fn by_digit(set: u16) -> u32
     ensures { result ≡ by_digit set }
 {
-    (set % 1024) as u32 * 65536 + (set / 1024) as u32 * 2
+    u32::from(set % 1024) * 65536 + u32::from(set / 1024) * 2
 }
 
 // The two sets of a place as sets of digits in place of codes, so that a digit need not be decoded
@@ -64,7 +64,7 @@ impl Tokens {
 // The tokens after a trace, from its digits, two for each activity. Codes are below 16, so the
 // second digit is the code. All events are replayed, also after a token was missing.
 pub fn replay_trace(digits: &[u8], sets: DigitSets) -> Tokens
-    requires { (length digits.now ≤ 2 * most_events) × (all is_digit digits.now ≡ true) }
+    requires { (length digits.now ≤ 2 * most_events) × (list_all is_digit digits.now ≡ true) }
     ensures { (place : Place) → sets ≡ digit_sets place → result ≡ after_trace place (codes_in digits.now) }
 {
     let mut tokens = Tokens {

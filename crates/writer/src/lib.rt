@@ -25,8 +25,8 @@ fn write_line(word: u32, line: &mut [u8])
     ensures { line.new ≡ place_line word }
 {
     let place = Place::from(word);
-    write_hex(place.inputs as u64, &mut line[0..SET_DIGITS]);
-    write_hex(place.outputs as u64, &mut line[SET_DIGITS..LINE_DIGITS]);
+    write_hex(u64::from(place.inputs), &mut line[0..SET_DIGITS]);
+    write_hex(u64::from(place.outputs), &mut line[SET_DIGITS..LINE_DIGITS]);
     line[LINE_DIGITS] = b'\n';
 }
 
@@ -54,6 +54,6 @@ pub fn write_places(words: &[u32], text: &mut [u8]) -> Result<usize, Refusal>
     ensures text { text.new ≡ written_after words.now text.old }
     ensures numbered { Numbered (writing_refusal words.now (length text.old)) (answer_number result) (answer_value result) }
 {
-    check_words(words, words.len() <= text.len() / LINE_BYTES)?;
+    check_words(words, text.len() / LINE_BYTES)?;
     Ok(write_lines(words, text))
 }

@@ -12,9 +12,9 @@ use mathlib.Core.List.Memᴰ
 use mathlib.Core.List.{List, map, Memᴰ}
 use Rattle.foundation.specs.Lists.{Ordered}
 use Rattle.foundation.proofs.laws.Booleans.{not_decides}
-use Rattle.foundation.proofs.laws.Lists.{keep_map}
-use Rattle.foundation.proofs.laws.Members.{members_each, member_keep}
-use Rattle.foundation.proofs.laws.Ordered.{ordered_keep}
+use Rattle.foundation.proofs.laws.Lists.{filter_of_map}
+use Rattle.foundation.proofs.laws.Members.{members_each, member_filter}
+use Rattle.foundation.proofs.laws.Ordered.{ordered_filter}
 use Rattle.limits.specs.declared.Settings.{Settings}
 use Rattle.limits.specs.Settings.{most_activities}
 use Rattle.places.specs.declared.Place.{Place}
@@ -50,7 +50,7 @@ module _ (words : List ℕ) where
   unfolding reduced_words redundant
   kept_exactly places w =
       Iff.trans
-      (member_keep (λ (v : ℕ). not (redundant words v)) words)
+      (member_filter (λ (v : ℕ). not (redundant words v)) words)
       (Iff.and Iff.rfl (not_decides (is_union words (place_of w)) (union_test places (place_of w))))
 
   -- the places of the kept words are those of the list's that are no union
@@ -58,7 +58,7 @@ module _ (words : List ℕ) where
   unfolding reduced_words redundant
   kept_in_order ordered =
       let irredundant : Place → Bool = λ p. not (is_union words p) in
-      rw (← keep_map irredundant (λ (w : ℕ). irredundant (place_of w)) place_of (λ w. refl) words) (ordered_keep irredundant ordered)
+      rw (← filter_of_map irredundant (λ (w : ℕ). irredundant (place_of w)) place_of (λ w. refl) words) (ordered_filter irredundant ordered)
 
   pub exactly_irredundant : Listable words → Ordered PlaceBefore (map place_of words) → ExactlyIrredundant words (reduced_words words)
   exactly_irredundant places ordered = record { these = refl; exactly = kept_exactly places; in_order = kept_in_order ordered }

@@ -10,10 +10,11 @@ use mathlib.Core.Bool.{Bool, true, not, ◌&&◌, and-eq-true_iff}
 use lib.Dec.{eqb, ltb}
 use lib.ListN.{length}
 use borrow.Author.Tests.{eqb-true, eq-eqb, lt-ltb, ltb-true}
-use Rattle.foundation.specs.Lists.{keep, all, up_to}
+use Rattle.foundation.specs.Lists.{up_to}
+use Rattle.std.specs.List.{filter, list_all}
 use Rattle.foundation.proofs.laws.Booleans.{by_test}
-use Rattle.foundation.proofs.laws.Each.{all_keep, all_kept, each_up_to, up_to_each}
-use Rattle.foundation.proofs.laws.Keeping.{keep_twice, keep_fewer}
+use Rattle.foundation.proofs.laws.Each.{all_filter, all_kept, each_up_to, up_to_each}
+use Rattle.foundation.proofs.laws.Filtering.{filter_twice, filter_fewer}
 use Rattle.limits.specs.Settings.{most_activities}
 use Rattle.places.specs.declared.Place.{Place}
 use Rattle.places.specs.Sets.{member, codes, within}
@@ -27,34 +28,34 @@ is_added i j a = member j a && not (member i a)
 
 -- code a is above all codes of i
 above : ℕ → ℕ → Bool
-above i a = all (λ (b : ℕ). ltb b a) (codes i)
+above i a = list_all (λ (b : ℕ). ltb b a) (codes i)
 
 -- what it means that j is i with codes added above its own
 record Extension (i j : ℕ) : Type 0 where
   inside : within i j ≡ true
-  some_added : 0 < length (keep (is_added i j) (up_to most_activities))
+  some_added : 0 < length (filter (is_added i j) (up_to most_activities))
   added_above : (a : ℕ) → a < most_activities → is_added i j a ≡ true → above i a ≡ true
 
-added_codes : (i j : ℕ) → added i j ≡ keep (is_added i j) (up_to most_activities)
+added_codes : (i j : ℕ) → added i j ≡ filter (is_added i j) (up_to most_activities)
 unfolding added codes is_added
-added_codes i j = keep_twice (λ (a : ℕ). not (member i a)) (member j) (up_to most_activities)
+added_codes i j = filter_twice (λ (a : ℕ). not (member i a)) (member j) (up_to most_activities)
 
 extends_parts : (i j : ℕ) → extends i j ≡ true → Extension i j
 unfolding extends above
 extends_parts i j e =
     let some = ltb 0 (length (added i j)) in
-    let outer = (and-eq-true_iff (within i j && some) (all (above i) (added i j))).0 e in
+    let outer = (and-eq-true_iff (within i j && some) (list_all (above i) (added i j))).0 e in
     let inner = (and-eq-true_iff (within i j) some).0 outer.0 in
     record {
       inside = inner.0;
       some_added = rw added_codes at (ltb-true 0 (length (added i j)) inner.1);
-      added_above = up_to_each most_activities (all_keep (above i) (is_added i j) (up_to most_activities) (rw added_codes at outer.1));
+      added_above = up_to_each most_activities (all_filter (above i) (is_added i j) (up_to most_activities) (rw added_codes at outer.1));
     }
 
 parts_extend : (i j : ℕ) → Extension i j → extends i j ≡ true
 unfolding extends above
 parts_extend i j x =
-    rw (x.inside, added_codes i j, lt-ltb 0 (length (keep (is_added i j) (up_to most_activities))) x.some_added)
+    rw (x.inside, added_codes i j, lt-ltb 0 (length (filter (is_added i j) (up_to most_activities))) x.some_added)
     (all_kept (above i) (is_added i j) (each_up_to most_activities x.added_above))
 
 -- a code above all of a set is above all of a set within it
@@ -83,7 +84,7 @@ module _ (i j k : ℕ) (first : Extension i j) (second : Extension j k) where
   extends_both =
       record {
         inside = within_trans i j k first.inside second.inside;
-        some_added = omega (arith, first.some_added, keep_fewer (is_added i j) (is_added i k) (each_up_to most_activities still_added));
+        some_added = omega (arith, first.some_added, filter_fewer (is_added i j) (is_added i k) (each_up_to most_activities still_added));
         added_above = all_above;
       }
 

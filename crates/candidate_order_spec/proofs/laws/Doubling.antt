@@ -10,8 +10,10 @@ use mathlib.Core.Bool.{cond}
 use mathlib.Core.List.{List, [], ◌∷◌, map, append-nil}
 use lib.Dec.{eqb}
 use lib.ListN.{length, length-map}
-use Rattle.foundation.specs.Lists.{keep, up_to}
-use Rattle.foundation.proofs.laws.Lists.{keep_append, keep_map, up_to_raised}
+use Rattle.foundation.specs.Lists.{up_to}
+use Rattle.std.specs.List.{filter}
+use Rattle.std.proofs.lemmas.List.Elements.{filter-append}
+use Rattle.foundation.proofs.laws.Lists.{filter_of_map, up_to_raised}
 use Rattle.places.specs.Sets.{has, member, codes, size}
 use Rattle.places.proofs.laws.SetBits.{has_half}
 
@@ -30,18 +32,18 @@ module _ (s : ℕ) where
   raised_with_zero = omega arith
 
 -- a set below 2 to the power n has no code n
-codes_below : (n s : ℕ) → s < 2 ^ n → keep (member s) (up_to (suc n)) ≡ keep (member s) (up_to n)
-codes_below n s small = keep_append (member s) (up_to n) (n ∷ []) ∙ rw (div-eq_of_lt small) (append-nil (keep (member s) (up_to n)))
+codes_below : (n s : ℕ) → s < 2 ^ n → filter (member s) (up_to (suc n)) ≡ filter (member s) (up_to n)
+codes_below n s small = filter-append (member s) (up_to n) (n ∷ []) ∙ rw (div-eq_of_lt small) (append-nil (filter (member s) (up_to n)))
 
 -- the codes of a set t whose codes above 0 are those of s, each one more
 codes_shifted : (s t : ℕ) → ((a : ℕ) → has t (suc a) ≡ has s a) → s < 32768
     → codes t ≡ cond (member t 0) (0 ∷ map suc (codes s)) (map suc (codes s))
 unfolding codes
-codes_shifted s t shift small = ap (keep (member t)) (up_to_raised 15) ∙ ap (λ (l : List ℕ). cond (member t 0) (0 ∷ l) l) above
+codes_shifted s t shift small = ap (filter (member t)) (up_to_raised 15) ∙ ap (λ (l : List ℕ). cond (member t 0) (0 ∷ l) l) above
   where
-    above : keep (member t) (map suc (up_to 15)) ≡ map suc (keep (member s) (up_to 16))
+    above : filter (member t) (map suc (up_to 15)) ≡ map suc (filter (member s) (up_to 16))
     above =
-        keep_map (member t) (member s) suc (λ a. ap (λ (h : ℕ). eqb h 1) (shift a)) (up_to 15) ∙ ap (map suc) (sym (codes_below 15 s small))
+        filter_of_map (member t) (member s) suc (λ a. ap (λ (h : ℕ). eqb h 1) (shift a)) (up_to 15) ∙ ap (map suc) (sym (codes_below 15 s small))
 
 -- the codes of the raised sets as lists, and how many they are
 module _ (s : ℕ) (small : s < 32768) where

@@ -11,9 +11,9 @@ use mathlib.Core.List.{List, [], ◌∷◌, map}
 use lib.Dec.{eqb, ltb, leb-suc-suc}
 use lib.ListN.{length-map}
 use borrow.Author.Tests.{lt-ltb}
-use Rattle.foundation.specs.Lists.{keep, all}
-use Rattle.foundation.proofs.laws.Lists.{keep_map, all_map}
-use Rattle.foundation.proofs.laws.Each.{each_always, each_all, keep_every}
+use Rattle.std.specs.List.{filter, list_all}
+use Rattle.foundation.proofs.laws.Lists.{filter_of_map, all_map}
+use Rattle.foundation.proofs.laws.Each.{each_always, each_all, filter_every}
 use Rattle.places.specs.Sets.{member, codes, size, within}
 use Rattle.places.specs.Candidates.{added, extends}
 use Rattle.candidate_order_spec.proofs.laws.Doubling.{has_raised, has_raised_zero, raised_without_zero, raised_with_zero, codes_raised, codes_raised_zero}
@@ -26,7 +26,7 @@ member_raised_zero s a = ap (λ (h : ℕ). eqb h 1) (has_raised_zero s a)
 
 -- a code is above all of some codes
 abbrev above : List ℕ → ℕ → Bool
-above cs a = all (λ (b : ℕ). ltb b a) cs
+above cs a = list_all (λ (b : ℕ). ltb b a) cs
 
 above_raised : (cs : List ℕ) (a : ℕ) → above (map suc cs) (suc a) ≡ above cs a
 above_raised cs a = all_map (λ (b : ℕ). ltb b (suc a)) (λ (b : ℕ). ltb b a) suc (λ b. leb-suc-suc (suc b) a) cs
@@ -48,14 +48,14 @@ module _ (s t : ℕ) (s_small : s < 32768) (t_small : t < 32768) where
   added_raised : added (2 * s) (2 * t) ≡ map suc (added s t)
   unfolding added
   added_raised =
-      ap (keep (λ (a : ℕ). not (member (2 * s) a))) (codes_raised t t_small)
-      ∙ keep_map _ (λ (a : ℕ). not (member s a)) suc (λ a. ap not (member_raised s a)) (codes t)
+      ap (filter (λ (a : ℕ). not (member (2 * s) a))) (codes_raised t t_small)
+      ∙ filter_of_map _ (λ (a : ℕ). not (member s a)) suc (λ a. ap not (member_raised s a)) (codes t)
 
   added_raised_zero : added (2 * s + 1) (2 * t + 1) ≡ map suc (added s t)
   unfolding added
   added_raised_zero =
       rw (codes_raised_zero t t_small, raised_with_zero s)
-      (keep_map _ (λ (a : ℕ). not (member s a)) suc (λ a. ap not (member_raised_zero s a)) (codes t))
+      (filter_of_map _ (λ (a : ℕ). not (member s a)) suc (λ a. ap not (member_raised_zero s a)) (codes t))
 
   -- with each code one more in both sets
   pub extends_raised : extends (2 * s) (2 * t) ≡ extends s t
@@ -99,8 +99,8 @@ extends_nothing t some =
     not_in : (a : ℕ) → not (member 0 a) ≡ true
     not_in a = rw (zero-div (2 ^ a))
 
-    every : keep (λ (a : ℕ). not (member 0 a)) (codes t) ≡ codes t
-    every = keep_every (λ (a : ℕ). not (member 0 a)) (each_always not_in (codes t))
+    every : filter (λ (a : ℕ). not (member 0 a)) (codes t) ≡ codes t
+    every = filter_every (λ (a : ℕ). not (member 0 a)) (each_always not_in (codes t))
 
 -- and so every set that has code 0 and more extends that of code 0 alone
 pub extends_first : (t : ℕ) → t < 32768 → 0 < size t → extends 1 (2 * t + 1) ≡ true

@@ -11,9 +11,10 @@ use mathlib.Core.Bool.{Bool, true, false, not}
 use mathlib.Core.List.Memᴰ
 use mathlib.Core.List.{List, [], ◌∷◌, ◌++◌, append-nil, append_assoc, Memᴰ}
 use lib.ListN.{drop}
-use Rattle.foundation.specs.Lists.{Each, keep}
-use Rattle.foundation.proofs.laws.Lists.{keep_append}
-use Rattle.foundation.proofs.laws.Each.{each_imply, each_front, keep_every, keep_none}
+use Rattle.foundation.specs.Lists.{Each}
+use Rattle.std.specs.List.{filter}
+use Rattle.std.proofs.lemmas.List.Elements.{filter-append}
+use Rattle.foundation.proofs.laws.Each.{each_imply, each_front, filter_every, filter_none}
 use Rattle.foundation.proofs.laws.Members.{each_member}
 use Rattle.limits.specs.Settings.{most_activities}
 use Rattle.places.specs.Candidates.{candidate_set, sets, extends}
@@ -86,8 +87,8 @@ module _ (n m : ℕ) (few : n ≤ most_activities) where
     past_first : set_past s (sets n m) ≡ first_set at.others
     unfolding set_past
     past_first =
-        ap (λ (l : List ℕ). first_set (keep passed (drop 1 l))) at.found
-        ∙ ap first_set (keep_append passed at.extending at.others ∙ rw (keep_none passed none, keep_every passed all))
+        ap (λ (l : List ℕ). first_set (filter passed (drop 1 l))) at.found
+        ∙ ap first_set (filter-append passed at.extending at.others ∙ rw (filter_none passed none, filter_every passed all))
       where
         passed : ℕ → Bool
         passed t = not (extends s t)

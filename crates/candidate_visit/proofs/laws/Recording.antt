@@ -3,7 +3,7 @@
 -- words, where there is room. The candidate was not ruled before, so it is pruned below exactly if
 -- its own word was stored and rules it overfed.
 -- Assumes nothing.
-use Rattle.std.specs.Prelude.{Ok, Err}
+use Rattle.std.specs.Prelude.{Option, None, Some, Ok, Err}
 use Rattle.std.specs.Borrow.{MutBor}
 use Prim.Native.Nat.{ℕ, ◌+◌, ◌≤◌, ◌<◌}
 use native.Mathlib.Omega.{arith}
@@ -13,14 +13,14 @@ use mathlib.Core.Bool.{Bool, true, false, cond, ◌||◌}
 use mathlib.Core.List.{List}
 use lib.ListN.{length, take, set}
 use borrow.Author.Tests.{lt-ltb, le-ltb}
-use Rattle.foundation.specs.Lists.{any}
+use Rattle.std.specs.List.{list_any}
 use Rattle.places.specs.declared.Place.{Place}
 use Rattle.places.specs.Places.{word}
 use Rattle.places.proofs.laws.Words.{Storable}
 use Rattle.replay_spec.specs.declared.Verdict.{Verdict}
 use Rattle.replay_spec.specs.declared.Verdict.TheVariants.{Fitting, Underfed, Overfed, Both}
 use Rattle.rulings.specs.declared.Ruling.{Ruling}
-use Rattle.rulings.specs.declared.Ruling.TheVariants.{Unruled, AsUnderfed, AsOverfed}
+use Rattle.rulings.specs.declared.Ruling.TheVariants.{AsUnderfed, AsOverfed}
 use Rattle.rulings.specs.Rulings.{ruling_of}
 use Rattle.discovery_spec.specs.declared.End.TheVariants.{ListFull}
 use Rattle.discovery_spec.specs.Rejected.{rejected_word, rules_underfed, ruled_overfed, ruled}
@@ -29,27 +29,27 @@ use Rattle.discovery_spec.specs.Discovery.{capacity_of}
 use Rattle.discovery_spec.proofs.laws.Rulings.{is_overfed, own_overfed, overfed_more}
 use Rattle.candidate_visit.specs.declared.Descendants.TheVariants.{Searched, Pruned}
 use Rattle.candidate_visit.specs.declared.RunState.{RunState}
-use Rattle.candidate_visit.specs.Standing.{state_in, room_in, Holds, Turns, prunes}
+use Rattle.candidate_visit.specs.Standing.{state_in, room_in, Holds, Leaves, Turns, prunes}
 use Rattle.candidate_visit.proofs.laws.AsTheyAre.{how_many, as_it_is, word_more}
 
 -- what a ruling says: that a word rules the candidate overfed, and that one rules it at all
-abbrev pub says_overfed : Ruling → Bool
-says_overfed Unruled = false
-says_overfed AsUnderfed = false
-says_overfed AsOverfed = true
+abbrev pub says_overfed : Option Ruling → Bool
+says_overfed None = false
+says_overfed (Some AsUnderfed) = false
+says_overfed (Some AsOverfed) = true
 
-abbrev pub says_ruled : Ruling → Bool
-says_ruled Unruled = false
-says_ruled AsUnderfed = true
-says_ruled AsOverfed = true
+abbrev pub says_ruled : Option Ruling → Bool
+says_ruled None = false
+says_ruled (Some AsUnderfed) = true
+says_ruled (Some AsOverfed) = true
 
-pub ruling_says : (words : List ℕ) (c : Place) (r : Ruling) → ruling_of words c ≡ r
+pub ruling_says : (words : List ℕ) (c : Place) (r : Option Ruling) → ruling_of words c ≡ r
     → (ruled_overfed words c ≡ says_overfed r) × (ruled words c ≡ says_ruled r)
 unfolding ruling_of ruled
-ruling_says words c r e = rw (sym e) (go (ruled_overfed words c) (any (rules_underfed c) words))
+ruling_says words c r e = rw (sym e) (go (ruled_overfed words c) (list_any (rules_underfed c) words))
   where
     go : (o u : Bool)
-        → let r = cond o AsOverfed (cond u AsUnderfed Unruled) in (o ≡ says_overfed r) × ((u || o) ≡ says_ruled r)
+        → let r = cond o (Some AsOverfed) (cond u (Some AsUnderfed) None) in (o ≡ says_overfed r) × ((u || o) ≡ says_ruled r)
     go true true = (refl, refl)
     go true false = (refl, refl)
     go false true = (refl, refl)
@@ -93,7 +93,7 @@ with_rejected_word w rejected a b =
       found_there = b;
     }
 
-module _ (c : Place) (budget : ℕ) (w : RunState) (unruled : ruling_of (state_in w).rejected c ≡ Unruled) where
+module _ (c : Place) (budget : ℕ) (w : RunState) (unruled : ruling_of (state_in w).rejected c ≡ None) where
   abbrev state : State
   state = state_in w
 
@@ -102,7 +102,7 @@ module _ (c : Place) (budget : ℕ) (w : RunState) (unruled : ruling_of (state_i
 
   no_word_yet : ruled_overfed (take w.rejected_count w.rejected.now) c ≡ false
   unfolding state_in
-  no_word_yet = (ruling_says (take w.rejected_count w.rejected.now) c Unruled unruled).0
+  no_word_yet = (ruling_says (take w.rejected_count w.rejected.now) c None unruled).0
 
   -- the buffers as they are
   rejected_held : Holds (take w.rejected_count w.rejected.now) w.rejected w.rejected w.rejected_count
@@ -162,30 +162,19 @@ module _ (c : Place) (budget : ℕ) (w : RunState) (unruled : ruling_of (state_i
         )
         (go overfed)
       where
+        left : Leaves (going stored) w (with_rejected_word w rejected a b)
+        left =
+            record {
+              replays = refl;
+              visits = refl;
+              rejected = word_more w.rejected w.rejected_there (rejected_word c v) more words same;
+              found = found_held;
+            }
+
         go : (o : Bool)
             → Turns (going (cond o (with_pruned c stored) stored)) w (Ok (cond o Pruned Searched)) (with_rejected_word w rejected a b)
-        go true =
-            record {
-              answered = refl;
-              leaves =
-                  record {
-                    replays = refl;
-                    visits = refl;
-                    rejected = word_more w.rejected w.rejected_there (rejected_word c v) more words same;
-                    found = found_held;
-                  };
-            }
-        go false =
-            record {
-              answered = refl;
-              leaves =
-                  record {
-                    replays = refl;
-                    visits = refl;
-                    rejected = word_more w.rejected w.rejected_there (rejected_word c v) more words same;
-                    found = found_held;
-                  };
-            }
+        go true = record { answered = refl; leaves = record { replays = refl; visits = refl; rejected = left.rejected; found = found_held } }
+        go false = record { answered = refl; leaves = left }
 
     pub word_dropped : length w.rejected.now ≤ w.rejected_count → Turns (reject room v c state) w (Ok Searched) w
     unfolding reject proceed capacity_of state_in state_of prunes

@@ -3,17 +3,17 @@
 -- spent, and else is counted as visited and replayed, which leaves the rest to what follows a
 -- replay.
 -- Assumes nothing.
-use Rattle.std.specs.Prelude.{Result, Ok, Err}
+use Rattle.std.specs.Prelude.{Option, None, Result, Ok, Err}
 use Prim.Native.Nat.{ℕ, ◌+◌, ◌≤◌, ◌<◌}
 use mathlib.Core.Path.{◌≡◌, refl, sym, ◌∙◌}
 use mathlib.Core.Bool.{Bool, true, false, cond}
+use mathlib.Core.List.{List}
 use lib.ListN.{length, take}
 use borrow.Author.Tests.{le-leb, lt-leb}
 use Rattle.places.specs.declared.Place.{Place}
 use Rattle.replay_spec.specs.declared.Verdict.{Verdict}
 use Rattle.replay_spec.specs.declared.Verdict.TheVariants.{Fitting, Underfed, Overfed, Both}
 use Rattle.rulings.specs.declared.Ruling.{Ruling}
-use Rattle.rulings.specs.declared.Ruling.TheVariants.{Unruled}
 use Rattle.rulings.specs.Rulings.{ruling_of}
 use Rattle.discovery_spec.specs.declared.End.{End}
 use Rattle.discovery_spec.specs.declared.End.TheVariants.{BudgetSpent}
@@ -62,12 +62,18 @@ module _ (w : RunState) (a : w.rejected_count ≤ length w.rejected.now) (b : w.
         found = rw f (as_it_is w.found w.found_there);
       }
 
+-- the words of a run rule a candidate as its state does
+pub ruled_by_words : (c : Place) (w : RunState) {words : List ℕ} {r : Option Ruling} → words ≡ take w.rejected_count w.rejected.now
+    → r ≡ ruling_of words c → ruling_of (state_in w).rejected c ≡ r
+unfolding state_in
+ruled_by_words c w same e = rw (e, same)
+
 module _ (verdict : Place → Verdict) (budget : ℕ) (c : Place) (w : RunState) where
   abbrev state : State
   state = state_in w
 
   -- a word rules the candidate
-  pub skipped : (r : Ruling) → ruling_of state.rejected c ≡ r → says_ruled r ≡ true
+  pub skipped : (r : Option Ruling) → ruling_of state.rejected c ≡ r → says_ruled r ≡ true
       → (a : w.rejected_count ≤ length w.rejected.now) (b : w.found_count ≤ length w.found.now)
       → Turns (visit verdict (room_in w budget) c state) w (Ok (cond (says_overfed r) Pruned Searched)) (counting w w.replays (w.visits + 1) a b)
   unfolding visit proceed state_in visited with_pruned prunes state_of
@@ -82,9 +88,9 @@ module _ (verdict : Place → Verdict) (budget : ℕ) (c : Place) (w : RunState)
       go false = record { answered = refl; leaves = counted w _ _ refl refl }
 
   -- none does
-  pub not_skipped : ruling_of state.rejected c ≡ Unruled → visit verdict (room_in w budget) c state ≡ replay verdict (room_in w budget) c state
+  pub not_skipped : ruling_of state.rejected c ≡ None → visit verdict (room_in w budget) c state ≡ replay verdict (room_in w budget) c state
   unfolding visit state_in
-  not_skipped unruled = rw ((ruling_says (take w.rejected_count w.rejected.now) c Unruled unruled).1)
+  not_skipped unruled = rw ((ruling_says (take w.rejected_count w.rejected.now) c None unruled).1)
 
   -- the budget is spent
   pub budget_spent : budget ≤ w.replays → Turns (replay verdict (room_in w budget) c state) w (Err BudgetSpent) w

@@ -10,9 +10,9 @@ use mathlib.Core.List.{List, [], ◌∷◌}
 use borrow.Author.Tests.{eqb-true, eqb-false}
 use lib.ListN.{length, get_or, take, replicate, length-append, get_or-replicate}
 use Rattle.std.proofs.lemmas.List.{take_more}
-use Rattle.foundation.specs.Lists.{keep}
+use Rattle.std.specs.List.{filter}
 use Rattle.foundation.proofs.laws.Booleans.{by_test}
-use Rattle.foundation.proofs.laws.Lists.{keep_append}
+use Rattle.std.proofs.lemmas.List.Elements.{filter-append}
 use Rattle.places.specs.Sets.{has, member}
 use Rattle.reduction_spec.specs.Cover.{usable, choices}
 use Rattle.cover_choice.specs.Choosing.{Growable, Grown, Counts}
@@ -29,8 +29,8 @@ module _ (whole left : ℕ) (words : List ℕ) where
     unfolding choices
     choices_more a =
         let test : ℕ → Bool = λ (v : ℕ). usable whole left v && member v a in
-        rw (take_more words at 0 l, keep_append test (take at words) (w ∷ []))
-        (length-append (keep test (take at words)) (keep test (w ∷ [])))
+        rw (take_more words at 0 l, filter-append test (take at words) (w ∷ []))
+        (length-append (filter test (take at words)) (filter test (w ∷ [])))
 
     pub choices_same : usable whole left w ≡ false → (a : ℕ) → choices (take (at + 1) words) whole left a ≡ choices (take at words) whole left a
     choices_same e a = rw (choices_more a, e) (omega arith)

@@ -14,7 +14,7 @@ use borrow.Author.Tests.{eqb-true, eqb-false, ne_eqb, ltb-true, ltb-false}
 use lib.Dec.{eqb, ltb}
 use lib.ListN.{length}
 use Rattle.foundation.proofs.laws.Booleans.{by_test}
-use Rattle.foundation.proofs.laws.Each.{keep_none, each_always}
+use Rattle.foundation.proofs.laws.Each.{filter_none, each_always}
 use Rattle.places.specs.Sets.{has, member}
 use Rattle.reduction_spec.specs.Cover.{usable, Cover, choices}
 use Rattle.reduction_spec.proofs.laws.Parts.{Part, part_le, part_has, bits_part}
@@ -27,7 +27,7 @@ module _ (words : List ℕ) (whole left : ℕ) where
   -- no word can cover an activity that is not left
   none_beyond : (a : ℕ) → has left a ≡ 0 → choices words whole left a ≡ 0
   unfolding choices
-  none_beyond a e = ap length (keep_none _ (each_always (λ (w : ℕ). not_both w) words))
+  none_beyond a e = ap length (filter_none _ (each_always (λ (w : ℕ). not_both w) words))
     where
       not_both : (w : ℕ) → (usable whole left w && member w a) ≡ false
       not_both w =

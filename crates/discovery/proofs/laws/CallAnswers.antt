@@ -10,10 +10,11 @@ use native.Mathlib.Omega.{arith}
 use mathlib.Core.Path.{◌≡◌, refl, ap, ◌∙◌}
 use mathlib.Core.List.{List}
 use lib.ListN.{length}
-use Rattle.foundation.specs.Lists.{foldl}
+use Rattle.std.specs.List.{fold}
 use Rattle.limits.specs.declared.Refusal.{Refusal}
 use Rattle.limits.specs.declared.Settings.{Settings}
 use Rattle.limits.specs.Refusals.{Numbered, answer_number, answer_value}
+use Rattle.limits.proofs.laws.AnswerNumbers.{numbered}
 use Rattle.limits.specs.Settings.{most_activities}
 use Rattle.limits.proofs.laws.SettingsRanges.{InRange}
 use Rattle.places.specs.Places.{place}
@@ -30,7 +31,7 @@ use Rattle.discovery_spec.specs.declared.End.TheVariants.{Completed}
 use Rattle.discovery_spec.specs.declared.Run.{Run}
 use Rattle.discovery_spec.specs.Search.{Capacity, Progress, going, stopped, start, step, search, end_of}
 use Rattle.discovery_spec.specs.Discovery.{run, run_refusal, discovered, summary, replays_in, capacity_of, found_after, rejected_after}
-use Rattle.discovery_spec.proofs.laws.AnswerLaws.{replays_within, discovered_numbered}
+use Rattle.discovery_spec.proofs.laws.AnswerLaws.{replays_within}
 use Rattle.discovery_spec.proofs.laws.CallChecks.{NotRefused}
 use Rattle.candidate_visit.specs.declared.RunState.{RunState}
 use Rattle.candidate_visit.specs.Standing.{state_in, room_in}
@@ -91,13 +92,13 @@ module _ (s : Settings) (text : List ℕ) (rejected found : List ℕ) (budget : 
       → rejected_left ≡ rejected_after s text rejected found budget
       → found_left ≡ found_after s text rejected found budget
       → Answers d rejected_left found_left
-  unfolding capacity_of
+  unfolding capacity_of discovered
   answers {d} e cache list =
       record {
         answer = e;
         cache = cache;
         list = list;
-        numbered = discovered_numbered s text room e;
+        numbered = numbered _ _ e;
         within = replays_within s text room d e;
       }
 
@@ -124,7 +125,7 @@ module _ (s : Settings) (text : List ℕ) (rejected found : List ℕ) (budget : 
 
         abbrev carried : Progress
         carried =
-            foldl
+            fold
             (step (verdict s.threshold (frames_of text)) (room_in started budget))
             (going (state_in started))
             (candidates_from s (place 1 1))

@@ -11,7 +11,8 @@ use mathlib.Core.Bool.{Bool, true, false, cond, ◌||◌, or-false}
 use mathlib.Core.List.{List, [], ◌∷◌, ◌++◌, map-append}
 use lib.ListN.{length, length-append, length-map}
 use borrow.Author.Tests.{eq-eqb}
-use Rattle.foundation.specs.Lists.{Each, foldl}
+use Rattle.foundation.specs.Lists.{Each}
+use Rattle.std.specs.List.{fold}
 use Rattle.foundation.proofs.laws.Booleans.{impossible, by_test}
 use Rattle.foundation.proofs.laws.Each.{each_map, each_imply, each_always}
 use Rattle.limits.specs.Settings.{most_activities}
@@ -149,7 +150,7 @@ module _
           split = ap (λ (l : List ℕ). with_outputs l o) past.split
               ∙ ap (◌∷◌ c) (map-append of past.extending (from (set_past i (sets n m)) (sets n m)));
           comes = ap
-              (λ (p : Progress). foldl (step b.verdict room) p (with_outputs past.extending o))
+              (λ (p : Progress). fold (step b.verdict room) p (with_outputs past.extending o))
               (turn_is b.verdict b.budget w c ∙ pruned.on)
               ∙ run_pruned b.verdict room pruned.state (
               each_map of (each_imply (λ j x. rw pruned.pruned (below_it j true x)) past.extend)

@@ -11,7 +11,8 @@ use native.Mathlib.Nat.{le_refl}
 use mathlib.Core.Path.{◌≡◌, refl, sym, ap, ◌∙◌}
 use mathlib.Core.List.{List, [], ◌∷◌, ◌++◌}
 use lib.ListN.{length, take, length-append}
-use Rattle.foundation.specs.Lists.{Each, foldl}
+use Rattle.foundation.specs.Lists.{Each}
+use Rattle.std.specs.List.{fold}
 use Rattle.foundation.specs.Buffers.{overwrite}
 use Rattle.foundation.proofs.laws.Buffers.{take_overwritten, overwrite_again}
 use Rattle.places.specs.declared.Place.{Place}
@@ -71,13 +72,13 @@ has_stopped x (going s) e = cc
 has_stopped x (stopped end s) e = record { state = s; off = cc }
 
 module _ (verdict : Place → Verdict) (room : Capacity) where
-  run_stopped : (end : End) (s : State) (cs : List Place) → foldl (step verdict room) (stopped end s) cs ≡ stopped end s
+  run_stopped : (end : End) (s : State) (cs : List Place) → fold (step verdict room) (stopped end s) cs ≡ stopped end s
   unfolding step
   run_stopped end s [] = refl
   run_stopped end s (c ∷ cs) = run_stopped end s cs
 
   run_append : (p : Progress) (front rest : List Place)
-      → foldl (step verdict room) p (front ++ rest) ≡ foldl (step verdict room) (foldl (step verdict room) p front) rest
+      → fold (step verdict room) p (front ++ rest) ≡ fold (step verdict room) (fold (step verdict room) p front) rest
   run_append p [] rest = refl
   run_append p (c ∷ front) rest = run_append (step verdict room p c) front rest
 
@@ -95,13 +96,13 @@ module _ {before after : RunState} where
   -- so what comes after it can be made from the buffers
   resumed : (verdict : Place → Verdict) (room : Capacity) (s : State) → Leaves (going s) before after → {rest : List Place}
       → Each (NotBelow s.pruned) rest
-      → Alike (foldl (step verdict room) (going (state_in after)) rest) (foldl (step verdict room) (going s) rest)
+      → Alike (fold (step verdict room) (going (state_in after)) rest) (fold (step verdict room) (going s) rest)
   resumed verdict room s left {rest} clear =
       let back = state_back s left in
       let again : Progress = going (state_in after) in
       alike_trans
-      (aside_alike s.pruned (foldl (step verdict room) again rest))
-      (alike_same (sym (ap (λ (t : State). foldl (step verdict room) (going t) rest) back ∙ run_aside s.pruned verdict room again clear)))
+      (aside_alike s.pruned (fold (step verdict room) again rest))
+      (alike_same (sym (ap (λ (t : State). fold (step verdict room) (going t) rest) back ∙ run_aside s.pruned verdict room again clear)))
 
 -- a buffer with so many words that is as long as it was at the start, and of which the tail beyond
 -- its words is as it was
@@ -154,7 +155,7 @@ pub record Beginning : Type 0 where
 
 -- the run over some candidates, from counts and buffers on
 abbrev pub over : Beginning → List Place → RunState → Progress
-over b cs w = foldl (step b.verdict (room_in w b.budget)) (going (state_in w)) cs
+over b cs w = fold (step b.verdict (room_in w b.budget)) (going (state_in w)) cs
 
 -- the whole run
 abbrev pub whole : Beginning → Progress
@@ -223,7 +224,7 @@ module _ {b : Beginning} {w : RunState} where
     abbrev taken : Progress
     taken = over b front w
 
-    joined : over b (front ++ rest) w ≡ foldl (step b.verdict room) taken rest
+    joined : over b (front ++ rest) w ≡ fold (step b.verdict room) taken rest
     joined = run_append b.verdict room (going (state_in w)) front rest
 
     grown : Grown (state_in w) taken
@@ -246,7 +247,7 @@ module _ {b : Beginning} {w : RunState} where
       pub reached_stop : {end : End} → HasStopped taken end → Done b (Err end) after
       reached_stop {end} has =
           let all = joined
-          ∙ ap (λ (p : Progress). foldl (step b.verdict room) p rest) has.off
+          ∙ ap (λ (p : Progress). fold (step b.verdict room) p rest) has.off
           ∙ run_stopped b.verdict room end has.state rest
           ∙ sym has.off
           in
@@ -266,7 +267,7 @@ module _ {b : Beginning} {w : RunState} where
         alike_onward : Alike (over b rest after) (whole b)
         unfolding state_of
         alike_onward =
-            let all = joined ∙ ap (λ (p : Progress). foldl (step b.verdict room) p rest) has.on in
+            let all = joined ∙ ap (λ (p : Progress). fold (step b.verdict room) p rest) has.on in
             let again = resumed b.verdict room has.state (rw has.on at left) (rw has.on at clear) in
             rw same_room (alike_trans again (alike_trans (alike_same (sym all)) at.alike))
 

@@ -7,8 +7,9 @@ use mathlib.Core.Bool.{Bool, true, false, cond, or-false}
 use mathlib.Core.List.{List, ◌++◌}
 use lib.Dec.{ltb, leb}
 use lib.ListN.{length}
-use Rattle.foundation.specs.Lists.{Each, each_nil, each_cons, any, foldl}
-use Rattle.foundation.proofs.laws.Any.{any_append}
+use Rattle.foundation.specs.Lists.{Each, each_nil, each_cons}
+use Rattle.std.specs.List.{list_any, fold}
+use Rattle.std.proofs.lemmas.List.Folds.{list_any-append}
 use Rattle.places.specs.declared.Place.{Place}
 use Rattle.places.specs.Places.{word}
 use Rattle.places.specs.Candidates.{descends}
@@ -20,7 +21,7 @@ use Rattle.discovery_spec.specs.Search.{Capacity, State, Progress, going, stoppe
 
 -- c stands below none of these
 abbrev pub NotBelow : List Place → Place → Type 0
-NotBelow ps c = any (λ (ancestor : Place). descends ancestor c) ps ≡ false
+NotBelow ps c = list_any (λ (ancestor : Place). descends ancestor c) ps ≡ false
 
 -- a state, and progress, with further entries among the pruned
 abbrev pub pruning : List Place → State → State
@@ -93,7 +94,7 @@ module _ (ps : List Place) where
     unfolding step is_pruned
     step_aside (stopped end s) c e = refl
     step_aside (going s) c e =
-        rw (any_append (λ (ancestor : Place). descends ancestor c) s.pruned ps, e, or-false (is_pruned s c)) (go (is_pruned s c))
+        rw (list_any-append (λ (ancestor : Place). descends ancestor c) s.pruned ps, e, or-false (is_pruned s c)) (go (is_pruned s c))
       where
         go : (b : Bool)
             → cond b (going (pruning ps s)) (visit verdict room c (pruning ps s)) ≡ pruning_below ps (cond b (going s) (visit verdict room c s))
@@ -102,15 +103,15 @@ module _ (ps : List Place) where
 
     -- a run over candidates that stand below none of the entries does the same without them
     pub run_aside : (p : Progress) {cs : List Place} → Each (NotBelow ps) cs
-        → foldl (step verdict room) (pruning_below ps p) cs ≡ pruning_below ps (foldl (step verdict room) p cs)
+        → fold (step verdict room) (pruning_below ps p) cs ≡ pruning_below ps (fold (step verdict room) p cs)
     run_aside p each_nil = refl
     run_aside p (each_cons {x = c} {xs = cs} here later) =
-        ap (λ (q : Progress). foldl (step verdict room) q cs) (step_aside p c here) ∙ run_aside (step verdict room p c) later
+        ap (λ (q : Progress). fold (step verdict room) q cs) (step_aside p c here) ∙ run_aside (step verdict room p c) later
 
 module _ (verdict : Place → Verdict) (room : Capacity) where
   -- pruned candidates change nothing
   pub run_pruned : (s : State) {ds : List Place} → Each (λ (d : Place). is_pruned s d ≡ true) ds
-      → foldl (step verdict room) (going s) ds ≡ going s
+      → fold (step verdict room) (going s) ds ≡ going s
   unfolding step
   run_pruned s each_nil = refl
   run_pruned s (each_cons here later) = rw here (run_pruned s later)

@@ -9,16 +9,14 @@ use native.Mathlib.Omega.{arith}
 use mathlib.Core.Path.{◌≡◌, sym}
 use mathlib.Core.List.{List, [], ◌∷◌}
 use lib.ListN.{length, length-append}
-use Rattle.foundation.specs.Lists.{foldl}
+use Rattle.std.specs.List.{fold}
 use Rattle.limits.specs.declared.Refusal.{Refusal}
 use Rattle.limits.specs.declared.Settings.{Settings}
-use Rattle.limits.specs.Refusals.{Numbered, answer_number, answer_value}
-use Rattle.limits.proofs.laws.AnswerNumbers.{answer_numbered}
 use Rattle.places.specs.declared.Place.{Place}
 use Rattle.places.specs.Places.{word}
 use Rattle.places.specs.Candidates.{candidates}
 use Rattle.event_log_spec.specs.Lines.{frames_of}
-use Rattle.event_log_spec.proofs.laws.LogChecks.{answer_accepted}
+use Rattle.limits.proofs.laws.AnswerNumbers.{answer_accepted}
 use Rattle.replay_spec.specs.declared.Verdict.{Verdict}
 use Rattle.replay_spec.specs.Judgement.{verdict}
 use Rattle.discovery_spec.specs.declared.End.{End}
@@ -63,7 +61,7 @@ module _ (verdict : Place → Verdict) (room : Capacity) where
   step_fits (going s) c before = outcome_fits c s before (step_outcome verdict room c s)
   step_fits (stopped end s) c before = before
 
-  run_fits : (cs : List Place) (p : Progress) → Fits room p → Fits room (foldl (step verdict room) p cs)
+  run_fits : (cs : List Place) (p : Progress) → Fits room p → Fits room (fold (step verdict room) p cs)
   run_fits [] p before = before
   run_fits (c ∷ cs) p before = run_fits cs (step verdict room p c) (step_fits p c before)
 
@@ -102,9 +100,3 @@ pub replays_within : (s : Settings) (text : List ℕ) (room : Capacity) (d : Res
 unfolding replays_in
 replays_within s text room (Ok r) e = (answer_within s text room r (sym e)).within_budget
 replays_within s text room (Err r) e = omega arith
-
--- what is answered as defined has the number and the value of the refusal
-pub discovered_numbered : (s : Settings) (text : List ℕ) (room : Capacity) {d : Result Run Refusal} → d ≡ discovered s text room
-    → Numbered (run_refusal s text) (answer_number d) (answer_value d)
-unfolding discovered
-discovered_numbered s text room e = rw e (answer_numbered _ _)

@@ -10,9 +10,9 @@ use mathlib.Core.Logic.Iff
 use mathlib.Core.Bool.{Bool, true, false}
 use mathlib.Core.List.{List}
 use Rattle.foundation.specs.Lists.{Each}
-use Rattle.foundation.proofs.laws.Each.{each_keep}
-use Rattle.foundation.proofs.laws.Members.{member_keep}
-use Rattle.foundation.proofs.laws.Ordered.{ordered_keep}
+use Rattle.foundation.proofs.laws.Each.{each_filter}
+use Rattle.foundation.proofs.laws.Members.{member_filter}
+use Rattle.foundation.proofs.laws.Ordered.{ordered_filter}
 use Rattle.limits.specs.declared.Settings.{Settings}
 use Rattle.limits.specs.Settings.{most_activities}
 use Rattle.places.specs.Candidates.{candidates}
@@ -77,11 +77,11 @@ module _ (s : Settings) (text : List ℕ) where
           exactly =
               λ p.
               Iff.trans
-              (member_keep (fits s text) (candidates s))
+              (member_filter (fits s text) (candidates s))
               (Iff.and (candidate_listed s a.few p) Iff.rfl);
-          once = ordered_keep (fits s text) (candidates_distinct s a.few);
-          in_order = ordered_keep (fits s text) (candidates_ascending s a.few);
-          by_words = words_back (each_keep (fits s text) storable);
+          once = ordered_filter (fits s text) (candidates_distinct s a.few);
+          in_order = ordered_filter (fits s text) (candidates_ascending s a.few);
+          by_words = words_back (each_filter (fits s text) storable);
         }
 
     completed_all : (room : Capacity) → Completes s text room → FoundAll s text room

@@ -19,7 +19,8 @@ use Rattle.event_log_spec.specs.Frames.{WrittenLog}
 use Rattle.event_log_spec.specs.Lines.{frames_of}
 use Rattle.event_log_spec.specs.Checking.{log_refusal, checked}
 use Rattle.limits.proofs.laws.FirstOf.{given_none}
-use Rattle.event_log_spec.proofs.laws.LogChecks.{log_passes, answer_refused, answer_accepted}
+use Rattle.limits.proofs.laws.AnswerNumbers.{answer_refused, answer_accepted}
+use Rattle.event_log_spec.proofs.laws.LogChecks.{log_passes}
 use Rattle.event_log_spec.proofs.laws.Written.{text_written}
 use Rattle.discovery_spec.specs.Discovery.{run_refusal}
 

@@ -9,7 +9,7 @@ use Prim.Native.Nat.{ℕ}
 use mathlib.Core.Path.{◌≡◌}
 use mathlib.Core.Bool.{true, or-true}
 use mathlib.Core.List.{List, [], ◌∷◌, ◌++◌}
-use Rattle.foundation.specs.Lists.{any}
+use Rattle.std.specs.List.{list_any}
 use Rattle.foundation.proofs.laws.Any.{any_imply}
 use Rattle.foundation.proofs.laws.Booleans.{by_test, or_true_either}
 use Rattle.places.specs.declared.Place.{Place}
@@ -22,7 +22,7 @@ use Rattle.discovery_spec.proofs.laws.Soundness.{among_descendants}
 
 -- the words ws₂ and the pruned candidates ps₂ cover ws₁ and ps₁
 pub record Covers (ws₁ ws₂ : List ℕ) (ps₁ ps₂ : List Place) : Type 0 where
-  pub underfed : (d : Place) → any (rules_underfed d) ws₁ ≡ true → any (rules_underfed d) ws₂ ≡ true
+  pub underfed : (d : Place) → list_any (rules_underfed d) ws₁ ≡ true → list_any (rules_underfed d) ws₂ ≡ true
   pub overfed : (d : Place) → ruled_overfed ws₁ d ≡ true → ruled_overfed ws₂ d ≡ true
   pub pruned : (d : Place) → among_descendants ps₁ d ≡ true → among_descendants ps₂ d ≡ true
 
@@ -56,10 +56,10 @@ module _ {ws₁ ws₂ : List ℕ} {ps₁ ps₂ : List Place} (covers : Covers ws
   unfolding ruled
   covers_ruled d =
       or_true_either
-      (any (rules_underfed d) ws₁)
+      (list_any (rules_underfed d) ws₁)
       (ruled_overfed ws₁ d)
       (λ e. rw (covers.underfed d e))
-      (λ e. rw (covers.overfed d e) (or-true (any (rules_underfed d) ws₂)))
+      (λ e. rw (covers.overfed d e) (or-true (list_any (rules_underfed d) ws₂)))
 
   -- a word more in the covering cache
   pub covers_cached : (w : ℕ) → Covers ws₁ (ws₂ ++ (w ∷ [])) ps₁ ps₂

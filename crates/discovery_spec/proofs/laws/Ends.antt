@@ -1,7 +1,7 @@
 -- The ends of a run, told apart by the test whether it completed.
 -- Assumes nothing.
 use mathlib.Core.Path.{◌≡◌, refl}
-use mathlib.Core.Bool.{true, false}
+use mathlib.Core.Bool.{true}
 use Rattle.discovery_spec.specs.declared.End.{End}
 use Rattle.discovery_spec.specs.declared.End.TheVariants.{Completed, BudgetSpent, ListFull}
 use Rattle.discovery_spec.specs.Search.{is_completed}

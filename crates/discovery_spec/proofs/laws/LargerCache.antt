@@ -8,7 +8,7 @@ use mathlib.Core.Path.{◌≡◌, refl, ap, ◌∙◌}
 use mathlib.Core.List.{List, [], ◌∷◌}
 use lib.ListN.{length}
 use borrow.Author.Tests.{lt-ltb}
-use Rattle.foundation.specs.Lists.{foldl}
+use Rattle.std.specs.List.{fold}
 use Rattle.places.specs.declared.Place.{Place}
 use Rattle.replay_spec.specs.declared.Verdict.{Verdict}
 use Rattle.replay_spec.specs.declared.Verdict.TheVariants.{Fitting, Underfed, Overfed, Both}
@@ -41,12 +41,12 @@ module _ (verdict : Place → Verdict) (found budget : ℕ) {small large : ℕ} 
   step_same (going s) c free = rw (conclude_same found budget more (verdict c) c (replayed_once (visited s)) free)
   step_same (stopped end s) c free = refl
 
-  run_same : (cs : List Place) (p : Progress) → cached (foldl (step verdict (holding small found budget)) p cs) < small
-      → foldl (step verdict (holding small found budget)) p cs ≡ foldl (step verdict (holding large found budget)) p cs
+  run_same : (cs : List Place) (p : Progress) → cached (fold (step verdict (holding small found budget)) p cs) < small
+      → fold (step verdict (holding small found budget)) p cs ≡ fold (step verdict (holding large found budget)) p cs
   run_same [] p free = refl
   run_same (c ∷ cs) p free =
       run_same cs (step verdict (holding small found budget) p c) free
-      ∙ ap (λ (q : Progress). foldl (step verdict (holding large found budget)) q cs) (step_same p c (omega (arith, (run_grown verdict (holding small found budget) (c ∷ cs) p).rejected)))
+      ∙ ap (λ (q : Progress). fold (step verdict (holding large found budget)) q cs) (step_same p c (omega (arith, (run_grown verdict (holding small found budget) (c ∷ cs) p).rejected)))
 
   -- a run that did not fill its room for rejected words is the same run with more of it
   pub larger_cache : (cs : List Place) → length (state_of (search verdict (holding small found budget) cs)).rejected < small

@@ -7,7 +7,8 @@ use Prim.Native.Nat.{ℕ}
 use mathlib.Core.Path.{◌≡◌, refl, sym, ap, ◌∙◌}
 use mathlib.Core.Bool.{false}
 use mathlib.Core.List.{List, [], ◌∷◌, ◌++◌, map, append-nil, append_assoc}
-use Rattle.foundation.specs.Lists.{Each, each_nil, each_cons, keep, foldl}
+use Rattle.foundation.specs.Lists.{Each, each_nil, each_cons}
+use Rattle.std.specs.List.{filter, fold}
 use Rattle.places.specs.declared.Place.{Place}
 use Rattle.places.specs.Places.{word}
 use Rattle.places.proofs.laws.Words.{Storable}
@@ -20,7 +21,7 @@ use Rattle.discovery_spec.proofs.laws.Soundness.{MonotoneVerdict, Sound, SoundRu
 
 -- the candidates of some that fit
 abbrev pub fitting_among : (Place → Verdict) → List Place → List Place
-fitting_among verdict cs = keep (λ (p : Place). is_fitting (verdict p)) cs
+fitting_among verdict cs = filter (λ (p : Place). is_fitting (verdict p)) cs
 
 -- some words are the beginning of others
 abbrev pub Begins : List ℕ → List ℕ → Type 0
@@ -95,7 +96,7 @@ module _ (verdict : Place → Verdict) (room : Capacity) (total : List ℕ) wher
   step_accounted c cs (stopped end s) sound before = before
 
   run_accounted : MonotoneVerdict verdict → {cs : List Place} → Each Storable cs → (p : Progress) → SoundRun verdict p
-      → Accounted verdict total cs p → Accounted verdict total [] (foldl (step verdict room) p cs)
+      → Accounted verdict total cs p → Accounted verdict total [] (fold (step verdict room) p cs)
   run_accounted monotone each_nil p sound before = before
   run_accounted monotone (each_cons {x = c} {xs = cs} here later) p sound before =
       run_accounted

@@ -9,7 +9,7 @@ use mathlib.Core.List.{List, ◌∷◌}
 use lib.Dec.{ltb, leb}
 use lib.ListN.{length}
 use borrow.Author.Tests.{ltb-true, ltb-false, leb-true, leb-false, lt-ltb, le-ltb, le-leb, lt-leb}
-use Rattle.foundation.specs.Lists.{any}
+use Rattle.std.specs.List.{list_any}
 use Rattle.foundation.proofs.laws.Booleans.{by_test, or_false_parts, impossible}
 use Rattle.places.specs.declared.Place.{Place}
 use Rattle.places.specs.Places.{word}
@@ -63,7 +63,7 @@ pub data Outcome (verdict : Place → Verdict) (room : Capacity) (c : Place) (s 
 -- what the cache does not rule it does not rule overfed
 not_overfed : (ws : List ℕ) (c : Place) → ruled ws c ≡ false → ruled_overfed ws c ≡ false
 unfolding ruled
-not_overfed ws c e = (or_false_parts (any (rules_underfed c) ws) (ruled_overfed ws c) e).1
+not_overfed ws c e = (or_false_parts (list_any (rules_underfed c) ws) (ruled_overfed ws c) e).1
 
 proceed_onward : (c : Place) (s : State) → proceed c s ≡ going (onward c s)
 unfolding proceed with_pruned

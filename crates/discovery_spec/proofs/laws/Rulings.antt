@@ -9,8 +9,9 @@ use mathlib.Core.Path.{◌≡◌, refl, ap, ◌∙◌}
 use mathlib.Core.Bool.{Bool, true, false, ◌&&◌, ◌||◌, and-eq-true_iff, and-true, or-false}
 use mathlib.Core.List.{List, [], ◌∷◌, ◌++◌}
 use lib.Dec.{eqb}
-use Rattle.foundation.specs.Lists.{any}
-use Rattle.foundation.proofs.laws.Any.{any_append, any_imply}
+use Rattle.std.specs.List.{list_any}
+use Rattle.std.proofs.lemmas.List.Folds.{list_any-append}
+use Rattle.foundation.proofs.laws.Any.{any_imply}
 use Rattle.places.specs.declared.Place.{Place}
 use Rattle.places.specs.Places.{place_of, lighter}
 use Rattle.places.proofs.laws.Lighter.{lighter_refl, lighter_trans}
@@ -74,14 +75,14 @@ module _ (p : Place) (v : Verdict) (storable : Storable p) where
 
 -- one word more rules what the words before it rule, and what it rules itself
 module _ (ws : List ℕ) (w : ℕ) (c : Place) where
-  pub underfed_more : any (rules_underfed c) (ws ++ (w ∷ [])) ≡ (any (rules_underfed c) ws || rules_underfed c w)
-  underfed_more = any_append (rules_underfed c) ws (w ∷ []) ∙ ap (◌||◌ (any (rules_underfed c) ws)) (or-false (rules_underfed c w))
+  pub underfed_more : list_any (rules_underfed c) (ws ++ (w ∷ [])) ≡ (list_any (rules_underfed c) ws || rules_underfed c w)
+  underfed_more = list_any-append (rules_underfed c) ws (w ∷ []) ∙ ap (◌||◌ (list_any (rules_underfed c) ws)) (or-false (rules_underfed c w))
 
   pub overfed_more : ruled_overfed (ws ++ (w ∷ [])) c ≡ (ruled_overfed ws c || rules_overfed c w)
   unfolding ruled_overfed
-  overfed_more = any_append (rules_overfed c) ws (w ∷ []) ∙ ap (◌||◌ (any (rules_overfed c) ws)) (or-false (rules_overfed c w))
+  overfed_more = list_any-append (rules_overfed c) ws (w ∷ []) ∙ ap (◌||◌ (list_any (rules_overfed c) ws)) (or-false (rules_overfed c w))
 
-  pub underfed_kept : any (rules_underfed c) ws ≡ true → any (rules_underfed c) (ws ++ (w ∷ [])) ≡ true
+  pub underfed_kept : list_any (rules_underfed c) ws ≡ true → list_any (rules_underfed c) (ws ++ (w ∷ [])) ≡ true
   underfed_kept e = underfed_more ∙ rw e
 
   pub overfed_kept : ruled_overfed ws c ≡ true → ruled_overfed (ws ++ (w ∷ [])) c ≡ true

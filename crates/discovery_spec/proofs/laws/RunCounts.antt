@@ -8,7 +8,7 @@ use mathlib.Core.Path.{◌≡◌, refl}
 use mathlib.Core.Bool.{Bool, true, false, cond}
 use mathlib.Core.List.{List, [], ◌∷◌}
 use lib.ListN.{length, length-append}
-use Rattle.foundation.specs.Lists.{foldl}
+use Rattle.std.specs.List.{fold}
 use Rattle.places.specs.declared.Place.{Place}
 use Rattle.places.specs.Places.{word}
 use Rattle.replay_spec.specs.declared.Verdict.{Verdict}
@@ -48,7 +48,7 @@ module _ (verdict : Place → Verdict) (room : Capacity) where
   step_counted n (going s) c before = outcome_counted n c s before (step_outcome verdict room c s)
   step_counted n (stopped end s) c before = omega arith
 
-  run_counted : (n : ℕ) (cs : List Place) (p : Progress) → CountedRun room n p → CountedRun room (n + length cs) (foldl (step verdict room) p cs)
+  run_counted : (n : ℕ) (cs : List Place) (p : Progress) → CountedRun room n p → CountedRun room (n + length cs) (fold (step verdict room) p cs)
   run_counted n [] p before = omega arith
   run_counted n (c ∷ cs) p before =
       let later = run_counted (suc n) cs (step verdict room p c) (step_counted n p c before) in
@@ -98,7 +98,7 @@ module _ (verdict : Place → Verdict) (room : Capacity) where
   step_ample c cs (going s) before = outcome_ample c cs s before (step_outcome verdict room c s)
   step_ample c cs (stopped end s) before = before
 
-  run_ample : (cs : List Place) (p : Progress) → Ample verdict room cs p → Ample verdict room [] (foldl (step verdict room) p cs)
+  run_ample : (cs : List Place) (p : Progress) → Ample verdict room cs p → Ample verdict room [] (fold (step verdict room) p cs)
   run_ample [] p before = before
   run_ample (c ∷ cs) p before = run_ample cs (step verdict room p c) (step_ample c cs p before)
 

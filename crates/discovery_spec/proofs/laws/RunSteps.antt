@@ -10,7 +10,8 @@ use mathlib.Core.Logic.{◌⊎◌, inl, inr}
 use mathlib.Core.Bool.{Bool, true, false}
 use mathlib.Core.List.{List, [], ◌∷◌}
 use lib.ListN.{length, length-append}
-use Rattle.foundation.specs.Lists.{Each, each_nil, each_cons, foldl}
+use Rattle.foundation.specs.Lists.{Each, each_nil, each_cons}
+use Rattle.std.specs.List.{fold}
 use Rattle.places.specs.declared.Place.{Place}
 use Rattle.places.specs.Places.{word}
 use Rattle.replay_spec.specs.declared.Verdict.{Verdict}
@@ -83,7 +84,7 @@ module _ (verdict : Place → Verdict) (room : Capacity) where
   step_grown (stopped end s) c = record { rejected = le_refl _; found = le_refl _ }
 
   -- over a list of candidates words are only added
-  pub run_grown : (cs : List Place) (p : Progress) → Grown (state_of p) (foldl (step verdict room) p cs)
+  pub run_grown : (cs : List Place) (p : Progress) → Grown (state_of p) (fold (step verdict room) p cs)
   run_grown [] p = record { rejected = le_refl _; found = le_refl _ }
   run_grown (c ∷ cs) p =
       let here = step_grown p c in
@@ -96,7 +97,7 @@ module _ (verdict : Place → Verdict) (room : Capacity) where
   step_visits (stopped end s) c = omega arith
 
   -- there are no more visits than candidates
-  pub run_visits : (cs : List Place) (p : Progress) → (state_of (foldl (step verdict room) p cs)).visits ≤ (state_of p).visits + length cs
+  pub run_visits : (cs : List Place) (p : Progress) → (state_of (fold (step verdict room) p cs)).visits ≤ (state_of p).visits + length cs
   run_visits [] p = omega arith
   run_visits (c ∷ cs) p = omega (arith, step_visits p c, run_visits cs (step verdict room p c))
 
@@ -106,7 +107,7 @@ module _ (verdict : Place → Verdict) (room : Capacity) where
   step_end_given (stopped end s) c given = given
 
   -- a stop has its end
-  pub run_end_given : (cs : List Place) (p : Progress) → EndGiven p → EndGiven (foldl (step verdict room) p cs)
+  pub run_end_given : (cs : List Place) (p : Progress) → EndGiven p → EndGiven (fold (step verdict room) p cs)
   run_end_given [] p given = given
   run_end_given (c ∷ cs) p given = run_end_given cs (step verdict room p c) (step_end_given p c given)
 
@@ -124,7 +125,7 @@ module _ (verdict : Place → Verdict) (room : Capacity) where
   -- candidates of the same outputs add none of other outputs to the pruned
   pub run_outputs : (o : ℕ) {cs : List Place} (p : Progress) → Each (λ (c : Place). c.outputs ≡ o) cs
       → Each (λ (d : Place). d.outputs ≡ o) (state_of p).pruned
-      → Each (λ (d : Place). d.outputs ≡ o) (state_of (foldl (step verdict room) p cs)).pruned
+      → Each (λ (d : Place). d.outputs ≡ o) (state_of (fold (step verdict room) p cs)).pruned
   run_outputs o p each_nil before = before
   run_outputs o p (each_cons {x = c} here later) before =
       run_outputs o (step verdict room p c) later (step_outputs o p c here before)

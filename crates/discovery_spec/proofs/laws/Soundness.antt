@@ -7,7 +7,7 @@ use Prim.Native.Nat.{ℕ}
 use mathlib.Core.Path.{◌≡◌, refl}
 use mathlib.Core.Bool.{Bool, true, false, and-eq-true_iff, false≢true}
 use mathlib.Core.List.{List, [], ◌∷◌, ◌++◌}
-use Rattle.foundation.specs.Lists.{any}
+use Rattle.std.specs.List.{list_any}
 use Rattle.foundation.proofs.laws.Booleans.{by_test, or_true_either, impossible}
 use Rattle.places.specs.declared.Place.{Place}
 use Rattle.places.specs.Places.{lighter}
@@ -29,11 +29,11 @@ pub record MonotoneVerdict (verdict : Place → Verdict) : Type 0 where
 
 -- d is a descendant of one of these candidates
 abbrev pub among_descendants : List Place → Place → Bool
-among_descendants pruned d = any (λ (ancestor : Place). descends ancestor d) pruned
+among_descendants pruned d = list_any (λ (ancestor : Place). descends ancestor d) pruned
 
 -- what the cache rules is so, and what is pruned it rules overfed
 pub record Sound (verdict : Place → Verdict) (rejected : List ℕ) (pruned : List Place) : Type 0 where
-  pub underfed : (d : Place) → any (rules_underfed d) rejected ≡ true → is_underfed (verdict d) ≡ true
+  pub underfed : (d : Place) → list_any (rules_underfed d) rejected ≡ true → is_underfed (verdict d) ≡ true
   pub overfed : (d : Place) → ruled_overfed rejected d ≡ true → is_overfed (verdict d) ≡ true
   pub pruned_ruled : (d : Place) → among_descendants pruned d ≡ true → ruled_overfed rejected d ≡ true
 
@@ -61,7 +61,7 @@ module _ (verdict : Place → Verdict) (s : State) (sound : Sound verdict s.reje
   unfolding ruled
   ruled_unfit =
       or_true_either
-      (any (rules_underfed c) s.rejected)
+      (list_any (rules_underfed c) s.rejected)
       (ruled_overfed s.rejected c)
       (λ e. underfed_unfit (verdict c) (sound.underfed c e))
       (λ e. overfed_unfit (verdict c) (sound.overfed c e))
@@ -118,7 +118,7 @@ module _ (verdict : Place → Verdict) (monotone : MonotoneVerdict verdict) (c :
         underfed =
             λ d e.
             or_true_either
-            (any (rules_underfed d) ws)
+            (list_any (rules_underfed d) ws)
             (rules_underfed d added)
             (sound.underfed d)
             (rules_underfed_truly d)

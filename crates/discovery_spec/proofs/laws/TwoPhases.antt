@@ -15,7 +15,8 @@ use mathlib.Core.List.{List, [], append-nil}
 use lib.Dec.{ltb}
 use lib.ListN.{length}
 use borrow.Author.Tests.{ltb-true, ltb-false}
-use Rattle.foundation.specs.Lists.{Each, each_nil, each_cons, foldl}
+use Rattle.foundation.specs.Lists.{Each, each_nil, each_cons}
+use Rattle.std.specs.List.{fold}
 use Rattle.foundation.proofs.laws.Booleans.{by_test, impossible}
 use Rattle.places.specs.declared.Place.{Place}
 use Rattle.places.specs.Places.{word}
@@ -143,7 +144,7 @@ module _ (verdict : Place → Verdict) (monotone : MonotoneVerdict verdict) (fir
         halted end h (begins_trans s₁.found (state_of p₂).found b (step_grows verdict second p₂ c))
 
   paired_run : {cs : List Place} → Each Storable cs → {p₁ p₂ : Progress} → Paired verdict first p₁ p₂
-      → Paired verdict first (foldl (step verdict first) p₁ cs) (foldl (step verdict second) p₂ cs)
+      → Paired verdict first (fold (step verdict first) p₁ cs) (fold (step verdict second) p₂ cs)
   paired_run each_nil pair = pair
   paired_run (each_cons {x = c} here later) pair = paired_run later (paired_step c here pair)
 

@@ -1,12 +1,12 @@
--- The words of a log's frames, stored one after the other: where a frame begins, the words of those
--- before it stand in front of the buffer, and those of the frames that are left make up the rest. A
--- log has no more frames than there is room for, and so few bytes that where a frame starts leaves
--- room for its cases in a word.
+-- The entries of a log's frames, stored one after the other: where a frame begins, the entries of
+-- those before it stand in front of the buffer, and those of the frames that are left make up the
+-- rest. A log has no more frames than there is room for, and so few bytes that each field of an entry
+-- is wide enough.
 -- Assumes nothing.
 use Rattle.std.specs.Prelude.{Some, is_some, true}
 use Rattle.std.proofs.lemmas.Option.{same_Some}
 use Rattle.log_lines.specs.Reading.{count_in}
-use Prim.Native.Nat.{ℕ, ◌+◌, ◌-◌, ◌*◌, ◌/◌, ◌≤◌, ◌<◌}
+use Prim.Native.Nat.{ℕ, ◌+◌, ◌-◌, ◌*◌, ◌^◌, ◌≤◌, ◌<◌}
 use native.Mathlib.Omega.{arith}
 use mathlib.Core.Path.{◌≡◌, refl, sym, ap, ap₂, ◌∙◌}
 use mathlib.Core.List.{List, [], ◌∷◌, ◌++◌, flat_map, append-nil, append_assoc}
@@ -23,7 +23,8 @@ use Rattle.event_log_spec.specs.Frames.{Frame, FrameUnder, WrittenLog, count_dig
 use Rattle.event_log_spec.specs.Lines.{frames_of}
 use Rattle.event_log_spec.proofs.laws.PairLaws.{length_pairs}
 use Rattle.event_log.specs.Stepping.{trace_end}
-use Rattle.event_log.specs.FrameIndex.{start_unit, case_unit, index_word, frame_index, Indexed}
+use Rattle.event_log.specs.declared.index.IndexedFrame.{IndexedFrame}
+use Rattle.event_log.specs.FrameIndex.{frame_index, Indexed}
 use Rattle.event_log.proofs.laws.FrameAt.{frame_count, frame_end, frame_inside, frame_next}
 
 -- the bytes of a frame, and of frames
@@ -45,12 +46,9 @@ frames_bytes each_nil = omega arith
 frames_bytes (each_cons {x = f} {xs = frames} here later) =
     omega (arith, length-append (write_frame f) (flat_map write_frame frames), frame_bytes f, here.short, frames_bytes later)
 
--- so those of a log are few enough for a word
-pub log_bytes : {A : ℕ} {frames : List Frame} {text : List ℕ} → WrittenLog A frames text → length text < case_unit / start_unit
+-- so those of a log are few
+pub log_bytes : {A : ℕ} {frames : List Frame} {text : List ℕ} → WrittenLog A frames text → length text < 2 ^ 23
 log_bytes log = omega (arith, ap length log.in_order, frames_bytes log.each, log.few_frames)
-
-pub log_small : (text : List ℕ) → WrittenLog most_activities (frames_of text) text → length text < case_unit / start_unit
-log_small text log = log_bytes log
 
 -- the frames that are left of a log from an index on
 pub record FramesLeft (text : List ℕ) (at : ℕ) : Type 0 where
@@ -100,7 +98,7 @@ module _ (text : List ℕ) (at : ℕ) (f : FramesLeft text at) where
     pub end_inside : trace_end text (at + count_digits) < length text
     end_inside = frame_inside text at first_left.first (flat_map write_frame first_left.later) first_left.written
 
-    pub digits_fit : trace_end text (at + count_digits) - (at + count_digits) < start_unit
+    pub digits_fit : trace_end text (at + count_digits) - (at + count_digits) < 2 ^ 9
     digits_fit = omega (arith, end, first_left.under.short)
 
     first_count : count_in (drop at text) ≡ Some first_left.first.cases
@@ -120,7 +118,7 @@ module _ (text : List ℕ) (at : ℕ) (f : FramesLeft text at) where
     same_count : (cases : ℕ) → count_in (drop at text) ≡ Some cases → cases ≡ first_left.first.cases
     same_count cases e = same_Some cases first_left.first.cases (sym e ∙ first_count)
 
-    pub cases_fit : (cases : ℕ) → count_in (drop at text) ≡ Some cases → cases < case_unit
+    pub cases_fit : (cases : ℕ) → count_in (drop at text) ≡ Some cases → cases < 2 ^ 16
     cases_fit cases e = omega (arith, same_count cases e, first_left.under.countable)
 
   pub none_left : length text ≤ at → length f.left ≡ 0
@@ -133,16 +131,16 @@ module _ (text : List ℕ) (at : ℕ) (f : FramesLeft text at) where
           let rest = flat_map write_frame later in
           absurd (omega (arith, frame_end text at first rest written, frame_inside text at first rest written))
 
--- the words of the frames before an index of the text stand in front of a buffer
-pub record Stored (text before index : List ℕ) (count at : ℕ) : Type 0 where
+-- the entries of the frames before an index of the text stand in front of a buffer
+pub record Stored (text : List ℕ) (before index : List IndexedFrame) (count at : ℕ) : Type 0 where
   pub frames : FramesLeft text at
   pub counted : count + length frames.left ≡ length (frames_of text)
-  pub done : List ℕ
+  pub done : List IndexedFrame
   pub measured : length done ≡ count
   pub stored : index ≡ overwrite done before
   pub together : done ++ frame_index at frames.left ≡ frame_index 0 (frames_of text)
 
-module _ (text before : List ℕ) (log : WrittenLog most_activities (frames_of text) text) where
+module _ (text : List ℕ) (before : List IndexedFrame) (log : WrittenLog most_activities (frames_of text) text) where
   pub none_stored : Stored text before before 0 0
   none_stored =
       record {
@@ -154,17 +152,17 @@ module _ (text before : List ℕ) (log : WrittenLog most_activities (frames_of t
         together = refl;
       }
 
-  module _ (index : List ℕ) (count at : ℕ) (s : Stored text before index count at) where
-    -- one turn stores the word of the frame at the index
+  module _ (index : List IndexedFrame) (count at : ℕ) (s : Stored text before index count at) where
+    -- one turn stores the entry of the frame at the index
     pub one_stored : (cases : ℕ) → at < length text → most_frames ≤ length index → count_in (drop at text) ≡ Some cases
         → let start = at + count_digits in
         let end = trace_end text start in
-        Stored text before (set index count (index_word (end - start) start cases)) (count + 1) (end + 1)
+        Stored text before (set index count (record { start = start; digits = end - start; cases = cases })) (count + 1) (end + 1)
     unfolding frame_index
     one_stored cases more wide e =
         let f = first_left text at s.frames more in
         let start = at + count_digits in
-        let word = index_word (trace_end text start - start) start cases in
+        let entry : IndexedFrame = record { start = start; digits = trace_end text start - start; cases = cases } in
         let digits : trace_end text start - start ≡ 2 * length f.first.trace = omega (arith, end text at s.frames more) in
         let together : s.done ++ frame_index at (f.first ∷ f.later) ≡ frame_index 0 (frames_of text) = rw f.parts at s.together in
         record {
@@ -175,13 +173,13 @@ module _ (text before : List ℕ) (log : WrittenLog most_activities (frames_of t
                 under = f.later_under;
               };
           counted = omega (arith, s.counted, ap length f.parts);
-          done = s.done ++ (word ∷ []);
-          measured = omega (arith, length-append s.done (word ∷ []), s.measured);
+          done = s.done ++ (entry ∷ []);
+          measured = omega (arith, length-append s.done (entry ∷ []), s.measured);
           stored =
-              ap₂ (λ (buffer : List ℕ) (n : ℕ). set buffer n word) s.stored (sym s.measured)
-              ∙ overwrite_more before s.done word (omega (arith, s.measured, s.counted, ap length f.parts, log.few_frames, wide, ap length s.stored));
+              ap₂ (λ (buffer : List IndexedFrame) (n : ℕ). set buffer n entry) s.stored (sym s.measured)
+              ∙ overwrite_more before s.done entry (omega (arith, s.measured, s.counted, ap length f.parts, log.few_frames, wide, ap length s.stored));
           together =
-              append_assoc s.done (word ∷ []) (frame_index (trace_end text start + 1) f.later)
+              append_assoc s.done (entry ∷ []) (frame_index (trace_end text start + 1) f.later)
               ∙ rw (digits, end text at s.frames more, same_count text at s.frames more cases e) together;
         }
 
@@ -190,17 +188,17 @@ module _ (text before : List ℕ) (log : WrittenLog most_activities (frames_of t
     all_stored over =
         let none : s.frames.left ≡ [] = nil_from_length s.frames.left (none_left text at s.frames over) in
         let together : s.done ++ [] ≡ frame_index 0 (frames_of text) = rw none at s.together in
-        s.stored ∙ ap (λ (front : List ℕ). overwrite front before) (sym (append-nil s.done) ∙ together)
+        s.stored ∙ ap (λ (front : List IndexedFrame). overwrite front before) (sym (append-nil s.done) ∙ together)
 
-pub ruleset frames_stored = (log_small, some_left, end_onward, end_inside, digits_fit, some_count, cases_fit, none_left, none_stored, one_stored, all_stored)
+pub ruleset frames_stored = (log_bytes, some_left, end_onward, end_inside, digits_fit, some_count, cases_fit, none_left, none_stored, one_stored, all_stored)
 
 pub length_index : (from : ℕ) (frames : List Frame) → length (frame_index from frames) ≡ length frames
 unfolding frame_index
 length_index from [] = refl
 length_index from (f ∷ frames) = omega (arith, length_index (from + count_digits + 2 * length f.trace + 1) frames)
 
--- the words that were stored, taken from the front of their buffer, are the index of the log
-pub log_indexed : (text before after : List ℕ) (count : ℕ) → WrittenLog most_activities (frames_of text) text
+-- the entries that were stored, taken from the front of their buffer, are the index of the log
+pub log_indexed : (text : List ℕ) (before after : List IndexedFrame) (count : ℕ) → WrittenLog most_activities (frames_of text) text
     → count ≡ length (frames_of text) → after ≡ overwrite (frame_index 0 (frames_of text)) before
     → Indexed text (take count after)
 log_indexed text before after count log counted stored =
@@ -209,7 +207,7 @@ log_indexed text before after count log counted stored =
       log = log;
       indexed =
           ap₂
-          (λ (n : ℕ) (buffer : List ℕ). take n buffer)
+          (λ (n : ℕ) (buffer : List IndexedFrame). take n buffer)
           (counted ∙ sym (length_index 0 (frames_of text)))
           stored
           ∙ take_overwritten before index;

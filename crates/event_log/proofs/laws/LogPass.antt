@@ -27,7 +27,8 @@ use Rattle.event_log.specs.Pass.{text_checked, lines_checked}
 use Rattle.event_log_spec.proofs.laws.Lines.{lines_step}
 use Rattle.limits.proofs.laws.FirstOf.{only_one}
 use Rattle.event_log_spec.proofs.laws.FrameLines.{no_fault_framed}
-use Rattle.event_log_spec.proofs.laws.LogChecks.{bound_passes, bound_refused, lines_decide, answer_refused, answer_accepted}
+use Rattle.limits.proofs.laws.AnswerNumbers.{answer_refused, answer_accepted}
+use Rattle.event_log_spec.proofs.laws.LogChecks.{bound_passes, bound_refused, lines_decide}
 
 -- checking a log under a bound in its range is checking its text, and checking a text of some byte
 -- is checking its lines

@@ -17,7 +17,8 @@ use Rattle.limits.specs.Settings.{bound_in_range}
 use Rattle.event_log_spec.specs.Lines.{Line, lines}
 use Rattle.event_log_spec.specs.Checking.{line_fault, lines_fault, text_fault, size_of, checked}
 use Rattle.limits.proofs.laws.FirstOf.{first_some}
-use Rattle.event_log_spec.proofs.laws.LogChecks.{bound_passes, lines_decide, answer_refused}
+use Rattle.limits.proofs.laws.AnswerNumbers.{answer_refused}
+use Rattle.event_log_spec.proofs.laws.LogChecks.{bound_passes, lines_decide}
 use Rattle.event_log_spec.proofs.laws.LineFaults.{NamesLine, fault_order, names_line}
 
 -- the line with index k; past the last, one with no byte

@@ -12,7 +12,8 @@ use borrow.Author.Tests.{not-false, eqb-false, ltb-false, ne_eqb, le-ltb}
 use lib.Dec.{eqb, ltb}
 use lib.ListN.{length, take, drop, length-append, length-drop, take-append-drop}
 use lib.Seq.{length-take-le, take_at, drop_at}
-use Rattle.foundation.specs.Lists.{Each, all}
+use Rattle.foundation.specs.Lists.{Each}
+use Rattle.std.specs.List.{list_all}
 use Rattle.foundation.proofs.laws.Booleans.{or_false_parts}
 use Rattle.foundation.proofs.laws.Each.{each_imply, each_append, each_take, each_drop, all_each, each_all}
 use Rattle.hex_digits.specs.Digits.{is_digit, read_hex, write_hex}
@@ -42,7 +43,7 @@ well_formed l e =
     let no_feed = not l.ended in
     let odd = eqb (length l.bytes % 2) 1 in
     let few = ltb (length l.bytes) (count_digits + 4) in
-    let other = not (all is_digit l.bytes) in
+    let other = not (list_all is_digit l.bytes) in
     let parts₄ = or_false_parts (no_feed || odd || few || other) (eqb (frame_of l).cases 0) e in
     let parts₃ = or_false_parts (no_feed || odd || few) other parts₄.0 in
     let parts₂ = or_false_parts (no_feed || odd) few parts₃.0 in
@@ -51,7 +52,7 @@ well_formed l e =
       feed = not-false l.ended parts₁.0;
       even = let h : length l.bytes % 2 ≡ 1 → ⊥ = eqb-false (length l.bytes % 2) 1 parts₁.1 in omega arith;
       enough = ltb-false (length l.bytes) (count_digits + 4) parts₂.1;
-      digits = all_each is_digit l.bytes (not-false (all is_digit l.bytes) parts₃.1);
+      digits = all_each is_digit l.bytes (not-false (list_all is_digit l.bytes) parts₃.1);
       counted = let h : (frame_of l).cases ≡ 0 → ⊥ = eqb-false (frame_of l).cases 0 parts₄.1 in omega arith;
     }
 

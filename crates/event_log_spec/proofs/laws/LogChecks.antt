@@ -2,24 +2,23 @@
 -- the text has a byte, and no line has a fault; where all but the lines pass, the lines decide.
 -- To check a log A is enough, so the settings of that call pass when A is in its range.
 -- Assumes nothing.
-use Rattle.std.specs.Prelude.{Option, None, Some, Result, Ok, Err}
+use Rattle.std.specs.Prelude.{Option, None, Result, Err}
 use Prim.Native.Nat.{ℕ, ◌≤◌}
 use native.Mathlib.Omega.{arith}
-use mathlib.Core.Path.{◌≡◌, refl}
+use mathlib.Core.Path.{◌≡◌}
 use mathlib.Core.Logic.{◌↔◌}
 use mathlib.Core.Bool.{true, false, not}
 use mathlib.Core.List.{List, [], ◌∷◌}
 use borrow.Author.Tests.{eqb-false, ne_eqb, not-false}
 use lib.Dec.{eqb}
 use lib.ListN.{length}
-use Rattle.foundation.proofs.laws.Booleans.{impossible}
 use Rattle.limits.specs.declared.Refusal.{Refusal}
 use Rattle.limits.specs.declared.Refusal.TheVariants.{InvalidSetting, EmptyLog}
-use Rattle.limits.specs.Refusals.{first_refusal, Numbered, answered, answer_number, answer_value}
+use Rattle.limits.specs.Refusals.{first_refusal, Numbered, answer_number, answer_value}
 use Rattle.limits.specs.Settings.{bound_in_range, bound_fault}
 use Rattle.event_log_spec.specs.declared.LogSize.{LogSize}
-use Rattle.event_log_spec.specs.Checking.{empty_fault, text_fault, log_refusal, size_of, checked}
-use Rattle.limits.proofs.laws.AnswerNumbers.{answer_numbered}
+use Rattle.event_log_spec.specs.Checking.{empty_fault, text_fault, log_refusal, checked}
+use Rattle.limits.proofs.laws.AnswerNumbers.{numbered}
 use Rattle.limits.proofs.laws.FirstOf.{given_none, first_alone, first_none}
 
 pub bound_passes : (A : ℕ) → (bound_fault A ≡ None) ↔ (bound_in_range A ≡ true)
@@ -72,15 +71,4 @@ module _ (A : ℕ) (text : List ℕ) where
   pub checked_numbered : (r : Result LogSize Refusal) → r ≡ checked A text
       → Numbered (log_refusal (bound_fault A) None A text) (answer_number r) (answer_value r)
   unfolding checked
-  checked_numbered r e = rw e (answer_numbered (log_refusal (bound_fault A) None A text) (size_of text))
-
--- a call answers with a refusal exactly when it was given it, and with a result only where it was
--- given none
-module _ {X : Type 0} where
-  pub answer_refused : (o : Option Refusal) (result : X) (r : Refusal) → (answered o result ≡ Err r) ↔ (o ≡ Some r)
-  answer_refused None result r = (λ e. impossible (cc), λ e. impossible (cc))
-  answer_refused (Some s) result r = (λ e. cc, λ e. cc)
-
-  pub answer_accepted : (o : Option Refusal) (result other : X) → answered o result ≡ Ok other → (o ≡ None) × (result ≡ other)
-  answer_accepted None result other e = (refl, cc)
-  answer_accepted (Some s) result other e = impossible (cc)
+  checked_numbered r e = numbered _ _ e

@@ -3,16 +3,13 @@
 -- a proof chooses, and the trace determines it.
 -- Assumes nothing.
 use Rattle.std.specs.Prelude.{ℕ, ◌≤◌}
-use mathlib.Core.Path.{◌≡◌, refl, sym, ap, ap₂, ◌∙◌}
+use mathlib.Core.Path.{◌≡◌, sym, ap, ◌∙◌}
 use mathlib.Core.HLevel.{Σ_prop_path}
 use mathlib.Core.List.{List, [], ◌∷◌, ◌++◌, append_cancel_right, tail-eq_of_cons-eq}
 use denote.Struct.Props.{props}
-use Rattle.foundation.specs.Lists.{Each, each_nil, each_cons}
+use Rattle.foundation.specs.Lists.{Each}
+use Rattle.foundation.proofs.laws.Each.{each_prop}
 use Rattle.event_log_spec.specs.Frames.{Behaviour, Frame, FrameUnder, WrittenLog}
-
-pub each_prop : {A : Type 0} {P : A → Type 0} → ((x : A) → IsProp (P x)) → (xs : List A) → IsProp (Each P xs)
-each_prop once [] each_nil each_nil = refl
-each_prop once (x ∷ xs) (each_cons here later) (each_cons here' later') = ap₂ each_cons (once x here here') (each_prop once xs later later')
 
 -- what stands between, with the rest of the proof
 abbrev Between : List ℕ → List ℕ → Type 0

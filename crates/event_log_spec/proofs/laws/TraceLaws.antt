@@ -12,7 +12,8 @@ use borrow.Author.Tests.{leb-false, lt-leb, eqb-true, not-false}
 use lib.Dec.{eqb, leb}
 use lib.ListN.{length, take, get_or, length-append}
 use lib.Seq.{take-append_seam, get_or-append_seam}
-use Rattle.foundation.specs.Lists.{Each, any}
+use Rattle.foundation.specs.Lists.{Each}
+use Rattle.std.specs.List.{list_any}
 use Rattle.foundation.proofs.laws.Booleans.{or_false_parts}
 use Rattle.foundation.proofs.laws.Each.{each_imply, none_each, each_none}
 use Rattle.foundation.proofs.laws.Lists.{last_split}
@@ -31,7 +32,7 @@ module _ (A : ℕ) where
 -- the three tests, with n events between the first and the last
 placed_tests : (a : ℕ) (later : List ℕ) (n : ℕ) → length later ≡ suc n
     → endpoint_misplaced (a ∷ later)
-    ≡ (not (eqb a 0) || not (eqb (get_or later n 0) 1) || any (λ (b : ℕ). leb b 1) (take n later))
+    ≡ (not (eqb a 0) || not (eqb (get_or later n 0) 1) || list_any (λ (b : ℕ). leb b 1) (take n later))
 unfolding endpoint_misplaced
 placed_tests a later n e =
     let last : suc (length later) - 1 ≡ suc n = omega arith in
@@ -45,7 +46,7 @@ placed_behaviour (a ∷ (b ∷ rest)) long e =
     let between = take (length rest) (b ∷ rest) in
     let last = get_or (b ∷ rest) (length rest) 0 in
     let tests = rw (placed_tests a (b ∷ rest) (length rest) refl) at e in
-    let parts = or_false_parts (not (eqb a 0) || not (eqb last 1)) (any (λ (c : ℕ). leb c 1) between) tests in
+    let parts = or_false_parts (not (eqb a 0) || not (eqb last 1)) (list_any (λ (c : ℕ). leb c 1) between) tests in
     let outer = or_false_parts (not (eqb a 0)) (not (eqb last 1)) parts.0 in
     record {
       between = between;

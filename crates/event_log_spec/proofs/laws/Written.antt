@@ -23,7 +23,8 @@ use Rattle.event_log_spec.specs.Lines.{Line, lines, frame_of, frames_of}
 use Rattle.event_log_spec.specs.Checking.{line_fault, lines_fault, text_fault, log_refusal, log_size, size_of, checked}
 use Rattle.event_log_spec.proofs.laws.Lines.{lines_step}
 use Rattle.limits.proofs.laws.FirstOf.{first_none}
-use Rattle.event_log_spec.proofs.laws.LogChecks.{log_passes, bound_passes, lines_decide, answer_accepted}
+use Rattle.limits.proofs.laws.AnswerNumbers.{answer_accepted}
+use Rattle.event_log_spec.proofs.laws.LogChecks.{log_passes, bound_passes, lines_decide}
 use Rattle.event_log_spec.proofs.laws.FrameLines.{frame_line, FramedLine, under_back, frame_no_fault, no_fault_framed}
 use Rattle.event_log_spec.proofs.laws.TextLines.{line_text, text_of_lines, written_text, lines_written}
 

@@ -14,7 +14,7 @@ use lib.Dec.{leb}
 use lib.ListN.{length, take, drop, get_or, length-append}
 use lib.Seq.{take_all}
 use Rattle.foundation.specs.Buffers.{overwrite}
-use Rattle.foundation.specs.Lists.{keep}
+use Rattle.std.specs.List.{filter}
 use Rattle.foundation.proofs.laws.Booleans.{by_test}
 use Rattle.foundation.proofs.laws.Buffers.{take_overwritten}
 use Rattle.reduction_spec.specs.Cover.{Listable, Cover, usable, parts_of}
@@ -27,19 +27,19 @@ module _ {words : List ℕ} (whole left : ℕ) {before kept : List ℕ} {count a
   module _ (end : length words ≤ at) where
     pub all_gathered : Some count ≡ gathered words whole left (length before)
     unfolding gathered parts_of
-    all_gathered = ap Some (all_kept k end).0 ∙ rw (le-leb (length (keep (usable whole left) words)) (length before) (all_fit k end)) refl
+    all_gathered = ap Some (all_kept k end).0 ∙ rw (le-leb (length (filter (usable whole left) words)) (length before) (all_fit k end)) refl
 
     pub all_held : kept ≡ gathered_after words whole left before
     unfolding gathered_after parts_of
     all_held =
         (all_kept k end).1
-        ∙ sym (ap (λ (front : List ℕ). overwrite front before) (take_all (length before) (keep (usable whole left) words) (all_fit k end)))
+        ∙ sym (ap (λ (front : List ℕ). overwrite front before) (take_all (length before) (filter (usable whole left) words) (all_fit k end)))
 
   -- and where there is no room for the next of them
   module _ (l : at < length words) (e : usable whole left (get_or words at 0) ≡ true) (full : length kept ≤ count) where
     pub some_gathered : None ≡ gathered words whole left (length before)
     unfolding gathered parts_of
-    some_gathered = rw (lt-leb (length (keep (usable whole left) words)) (length before) (no_room k l e full).0) refl
+    some_gathered = rw (lt-leb (length (filter (usable whole left) words)) (length before) (no_room k l e full).0) refl
 
     pub some_held : kept ≡ gathered_after words whole left before
     unfolding gathered_after parts_of

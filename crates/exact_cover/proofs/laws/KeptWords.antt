@@ -9,32 +9,32 @@ use mathlib.Core.Bool.{Bool, true, false}
 use mathlib.Core.List.{List, [], ◌∷◌, ◌++◌, append-nil}
 use lib.ListN.{length, get_or, take, drop, set, length-set, length-append, take-append-drop}
 use lib.Seq.{take-suc, take_all, take-append_seam, drop-cons}
-use Rattle.foundation.specs.Lists.{keep}
+use Rattle.std.specs.List.{filter}
 use Rattle.foundation.specs.Buffers.{overwrite}
 use Rattle.foundation.proofs.laws.Buffers.{overwrite_more, overwrite_room}
-use Rattle.foundation.proofs.laws.Lists.{keep_append}
+use Rattle.std.proofs.lemmas.List.Elements.{filter-append}
 
 -- those before an index stand in front of the buffer, and were counted
 pub record KeptSo (test : ℕ → Bool) (words before kept : List ℕ) (count at : ℕ) : Type 0 where
   pub room : length kept ≡ length before
-  pub counted : count ≡ length (keep test (take at words))
+  pub counted : count ≡ length (filter test (take at words))
   pub few : count ≤ at
-  pub written : kept ≡ overwrite (keep test (take at words)) before
+  pub written : kept ≡ overwrite (filter test (take at words)) before
 
 module _ {test : ℕ → Bool} {words before : List ℕ} where
   pub none_kept : KeptSo test words before before 0 0
   none_kept = record { room = refl; counted = refl; few = omega arith; written = refl }
 
   module _ {kept : List ℕ} {count at : ℕ} (k : KeptSo test words before kept count at) (l : at < length words) where
-    next : keep test (take (at + 1) words) ≡ keep test (take at words) ++ keep test (get_or words at 0 ∷ [])
+    next : filter test (take (at + 1) words) ≡ filter test (take at words) ++ filter test (get_or words at 0 ∷ [])
     next =
-        ap (keep test) (ap (λ (n : ℕ). take n words) (add-one at) ∙ take-suc words at 0 l)
-        ∙ keep_append test (take at words) (get_or words at 0 ∷ [])
+        ap (filter test) (ap (λ (n : ℕ). take n words) (add-one at) ∙ take-suc words at 0 l)
+        ∙ filter-append test (take at words) (get_or words at 0 ∷ [])
 
     -- a word that does not pass
     pub drop_next : test (get_or words at 0) ≡ false → KeptSo test words before kept count (at + 1)
     drop_next e =
-        let same : keep test (take (at + 1) words) ≡ keep test (take at words) = next ∙ rw e (append-nil (keep test (take at words))) in
+        let same : filter test (take (at + 1) words) ≡ filter test (take at words) = next ∙ rw e (append-nil (filter test (take at words))) in
         record {
           room = k.room;
           counted = k.counted ∙ sym (ap length same);
@@ -43,11 +43,11 @@ module _ {test : ℕ → Bool} {words before : List ℕ} where
         }
 
     module _ (e : test (get_or words at 0) ≡ true) where
-      more : keep test (take (at + 1) words) ≡ keep test (take at words) ++ (get_or words at 0 ∷ [])
+      more : filter test (take (at + 1) words) ≡ filter test (take at words) ++ (get_or words at 0 ∷ [])
       more = next ∙ rw e refl
 
-      longer : length (keep test (take (at + 1) words)) ≡ count + 1
-      longer = omega (arith, k.counted, ap length more, length-append (keep test (take at words)) (get_or words at 0 ∷ []))
+      longer : length (filter test (take (at + 1) words)) ≡ count + 1
+      longer = omega (arith, k.counted, ap length more, length-append (filter test (take at words)) (get_or words at 0 ∷ []))
 
       -- one that does, stored where it belongs
       pub keep_next : count < length kept → KeptSo test words before (set kept count (get_or words at 0)) (count + 1) (at + 1)
@@ -59,19 +59,19 @@ module _ {test : ℕ → Bool} {words before : List ℕ} where
             few = omega (arith, k.few);
             written =
                 ap₂ (λ (b : List ℕ) (n : ℕ). set b n w) k.written k.counted
-                ∙ overwrite_more before (keep test (take at words)) w (omega (arith, k.counted, ap length k.written))
+                ∙ overwrite_more before (filter test (take at words)) w (omega (arith, k.counted, ap length k.written))
                 ∙ sym (ap (λ (front : List ℕ). overwrite front before) more);
           }
 
       -- one for which there is no room: those that pass are more than the buffer takes, and it holds as
       -- many of them as it takes
       pub no_room : length kept ≤ count
-          → (length before < length (keep test words)) × (kept ≡ overwrite (take (length before) (keep test words)) before)
+          → (length before < length (filter test words)) × (kept ≡ overwrite (take (length before) (filter test words)) before)
       no_room full =
-          let some : List ℕ = keep test (take at words) in
-          let later : List ℕ = keep test (drop at words) in
-          let all : keep test words ≡ some ++ later =
-          ap (keep test) (sym (take-append-drop at words)) ∙ keep_append test (take at words) (drop at words) in
+          let some : List ℕ = filter test (take at words) in
+          let later : List ℕ = filter test (drop at words) in
+          let all : filter test words ≡ some ++ later =
+          ap (filter test) (sym (take-append-drop at words)) ∙ filter-append test (take at words) (drop at words) in
           let filled : length before ≡ length some =
           omega (arith, k.room, k.counted, ap length k.written, length-append some (drop (length some) before)) in (
             omega (arith, filled, ap length all, length-append some later, more_later),
@@ -84,16 +84,16 @@ module _ {test : ℕ → Bool} {words before : List ℕ} where
           )
         where
           -- this word is one of them
-          more_later : 1 ≤ length (keep test (drop at words))
+          more_later : 1 ≤ length (filter test (drop at words))
           more_later = rw (drop-cons words at 0 l, e) (omega arith)
 
   pub all_kept : {kept : List ℕ} {count at : ℕ} → KeptSo test words before kept count at → length words ≤ at
-      → (count ≡ length (keep test words)) × (kept ≡ overwrite (keep test words) before)
+      → (count ≡ length (filter test words)) × (kept ≡ overwrite (filter test words) before)
   all_kept {at = at} k end =
       let all = take_all at words end in
       (rw all at k.counted, rw all at k.written)
 
   -- then the buffer had room for them
   pub all_fit : {kept : List ℕ} {count at : ℕ} → KeptSo test words before kept count at → length words ≤ at
-      → length (keep test words) ≤ length before
-  all_fit k end = overwrite_room before (keep test words) (sym (ap length (all_kept k end).1) ∙ k.room)
+      → length (filter test words) ≤ length before
+  all_fit k end = overwrite_room before (filter test words) (sym (ap length (all_kept k end).1) ∙ k.room)

@@ -1,6 +1,6 @@
--- Words written from the front of a buffer: its front alone changes nothing, a word stored after
--- the front makes the front longer by that word, the words can be taken back, and writing more
--- words over fewer is writing the more.
+-- Items written from the front of a buffer: its front alone changes nothing, an item stored after
+-- the front makes the front longer by that item, the items can be taken back, and writing more
+-- items over fewer is writing the more.
 -- Assumes nothing.
 use Prim.Native.Nat.{ℕ, suc, ◌+◌, ◌-◌, ◌≤◌, ◌<◌}
 use native.Mathlib.Omega.{arith}
@@ -10,25 +10,25 @@ use lib.ListN.{length, take, drop, set, length-append, take-append-drop}
 use lib.Seq.{length-take-le, set_split, append_snoc, take-append_seam, drop-append-add, drop-drop}
 use Rattle.foundation.specs.Buffers.{overwrite}
 
-module _ (buffer : List ℕ) where
+module _ {A : Type 0} (buffer : List A) where
   -- its own front
   pub overwrite_front : (n : ℕ) → n ≤ length buffer → overwrite (take n buffer) buffer ≡ buffer
   overwrite_front n h = rw (length-take-le n buffer h) (take-append-drop n buffer)
 
-  -- one word more
-  pub overwrite_next : (n w : ℕ) → n < length buffer → set buffer n w ≡ overwrite (take n buffer ++ (w ∷ [])) buffer
-  overwrite_next n w h =
-      set_split buffer n w h
-      ∙ sym (append_snoc (take n buffer) w (drop (suc n) buffer))
-      ∙ ap (λ (k : ℕ). take n buffer ++ (w ∷ []) ++ drop k buffer) longer
+  -- one item more
+  pub overwrite_next : (n : ℕ) (x : A) → n < length buffer → set buffer n x ≡ overwrite (take n buffer ++ (x ∷ [])) buffer
+  overwrite_next n x h =
+      set_split buffer n x h
+      ∙ sym (append_snoc (take n buffer) x (drop (suc n) buffer))
+      ∙ ap (λ (k : ℕ). take n buffer ++ (x ∷ []) ++ drop k buffer) longer
     where
-      longer : suc n ≡ length (take n buffer ++ (w ∷ []))
-      longer = omega (arith, length-append (take n buffer) (w ∷ []), length-take-le n buffer (omega arith))
+      longer : suc n ≡ length (take n buffer ++ (x ∷ []))
+      longer = omega (arith, length-append (take n buffer) (x ∷ []), length-take-le n buffer (omega arith))
 
-  pub take_overwritten : (words : List ℕ) → take (length words) (overwrite words buffer) ≡ words
-  take_overwritten words = take-append_seam words (drop (length words) buffer)
+  pub take_overwritten : (items : List A) → take (length items) (overwrite items buffer) ≡ items
+  take_overwritten items = take-append_seam items (drop (length items) buffer)
 
-  pub overwrite_again : (first second : List ℕ) → length first ≤ length second
+  pub overwrite_again : (first second : List A) → length first ≤ length second
       → overwrite second (overwrite first buffer) ≡ overwrite second buffer
   overwrite_again first second h =
       ap (◌++◌ second) (
@@ -43,13 +43,13 @@ module _ (buffer : List ℕ) where
       longer = omega arith
 
   -- what leaves the buffer as long as it was had room in it
-  pub overwrite_room : (words : List ℕ) → length (overwrite words buffer) ≡ length buffer → length words ≤ length buffer
-  overwrite_room words e = omega (arith, length-append words (drop (length words) buffer))
+  pub overwrite_room : (items : List A) → length (overwrite items buffer) ≡ length buffer → length items ≤ length buffer
+  overwrite_room items e = omega (arith, length-append items (drop (length items) buffer))
 
--- one word more after those that were written
-pub overwrite_more : (buffer words : List ℕ) (w : ℕ) → length words < length (overwrite words buffer)
-    → set (overwrite words buffer) (length words) w ≡ overwrite (words ++ (w ∷ [])) buffer
-overwrite_more buffer words w l =
-    overwrite_next (overwrite words buffer) (length words) w l
-    ∙ ap (λ (front : List ℕ). overwrite (front ++ (w ∷ [])) (overwrite words buffer)) (take_overwritten buffer words)
-    ∙ overwrite_again buffer words (words ++ (w ∷ [])) (omega (arith, length-append words (w ∷ [])))
+-- one item more after those that were written
+pub overwrite_more : {A : Type 0} (buffer items : List A) (x : A) → length items < length (overwrite items buffer)
+    → set (overwrite items buffer) (length items) x ≡ overwrite (items ++ (x ∷ [])) buffer
+overwrite_more buffer items x l =
+    overwrite_next (overwrite items buffer) (length items) x l
+    ∙ ap (λ front. overwrite (front ++ (x ∷ [])) (overwrite items buffer)) (take_overwritten buffer items)
+    ∙ overwrite_again buffer items (items ++ (x ∷ [])) (omega (arith, length-append items (x ∷ [])))

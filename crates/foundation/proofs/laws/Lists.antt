@@ -6,7 +6,8 @@ use mathlib.Core.Path.{◌≡◌, refl, sym, ap, ◌∙◌}
 use mathlib.Core.Bool.{Bool, true, false, cond, and-eq-true_iff}
 use mathlib.Core.List.{List, [], ◌∷◌, ◌++◌, map, flat_map, map-append}
 use lib.ListN.{length, take, get_or, length-append}
-use Rattle.foundation.specs.Lists.{Each, each_cons, keep, all, pairwise, up_to}
+use Rattle.foundation.specs.Lists.{Each, each_cons, pairwise, up_to}
+use Rattle.std.specs.List.{filter, list_all}
 
 module _ {A : Type 0} {P : A → Type 0} {x : A} {xs : List A} where
   pub each_head : Each P (x ∷ xs) → P x
@@ -19,18 +20,18 @@ module _ {A : Type 0} {P : A → Type 0} {x : A} {xs : List A} where
 -- first, or without its second, element
 module _ {A : Type 0} (r : A → A → Bool) where
   pub pairwise_tail : (x : A) (xs : List A) → pairwise r (x ∷ xs) ≡ true → pairwise r xs ≡ true
-  pairwise_tail x xs e = ((and-eq-true_iff (all (r x) xs) (pairwise r xs)).0 e).1
+  pairwise_tail x xs e = ((and-eq-true_iff (list_all (r x) xs) (pairwise r xs)).0 e).1
 
-  first_all : (x : A) (xs : List A) → pairwise r (x ∷ xs) ≡ true → all (r x) xs ≡ true
-  first_all x xs e = ((and-eq-true_iff (all (r x) xs) (pairwise r xs)).0 e).0
+  first_all : (x : A) (xs : List A) → pairwise r (x ∷ xs) ≡ true → list_all (r x) xs ≡ true
+  first_all x xs e = ((and-eq-true_iff (list_all (r x) xs) (pairwise r xs)).0 e).0
 
   pub pairwise_first : (x y : A) (xs : List A) → pairwise r (x ∷ y ∷ xs) ≡ true → r x y ≡ true
-  pairwise_first x y xs e = ((and-eq-true_iff (r x y) (all (r x) xs)).0 (first_all x (y ∷ xs) e)).0
+  pairwise_first x y xs e = ((and-eq-true_iff (r x y) (list_all (r x) xs)).0 (first_all x (y ∷ xs) e)).0
 
   pub pairwise_skip : (x y : A) (xs : List A) → pairwise r (x ∷ y ∷ xs) ≡ true → pairwise r (x ∷ xs) ≡ true
   pairwise_skip x y xs e =
-      (and-eq-true_iff (all (r x) xs) (pairwise r xs)).1 (
-        ((and-eq-true_iff (r x y) (all (r x) xs)).0 (first_all x (y ∷ xs) e)).1,
+      (and-eq-true_iff (list_all (r x) xs) (pairwise r xs)).1 (
+        ((and-eq-true_iff (r x y) (list_all (r x) xs)).0 (first_all x (y ∷ xs) e)).1,
         pairwise_tail y xs (pairwise_tail x (y ∷ xs) e),
       )
 
@@ -39,30 +40,20 @@ pub last_split : {A : Type 0} (x : A) (xs : List A) (d : A) → x ∷ xs ≡ tak
 last_split x [] d = refl
 last_split x (y ∷ xs) d = ap (◌∷◌ x) (last_split y xs d)
 
--- keeping some of two lists in turn
-pub keep_append : {A : Type 0} (p : A → Bool) (xs ys : List A) → keep p (xs ++ ys) ≡ keep p xs ++ keep p ys
-keep_append p [] ys = refl
-keep_append p (x ∷ xs) ys = go (p x) (keep_append p xs ys)
-  where
-    go : (b : Bool) → keep p (xs ++ ys) ≡ keep p xs ++ keep p ys
-        → cond b (x ∷ keep p (xs ++ ys)) (keep p (xs ++ ys)) ≡ cond b (x ∷ keep p xs) (keep p xs) ++ keep p ys
-    go true e = ap (◌∷◌ x) e
-    go false e = e
-
 -- of the images of a list, those that pass are the images of the elements that pass, where the
 -- tests agree
 module _ {A B : Type 0} (p : B → Bool) (q : A → Bool) (f : A → B) (agree : (x : A) → p (f x) ≡ q x) where
-  pub keep_map : (xs : List A) → keep p (map f xs) ≡ map f (keep q xs)
-  keep_map [] = refl
-  keep_map (x ∷ xs) = rw (agree x) (go (q x) (keep_map xs))
+  pub filter_of_map : (xs : List A) → filter p (map f xs) ≡ map f (filter q xs)
+  filter_of_map [] = refl
+  filter_of_map (x ∷ xs) = rw (agree x) (go (q x) (filter_of_map xs))
     where
-      go : (b : Bool) → keep p (map f xs) ≡ map f (keep q xs)
-          → cond b (f x ∷ keep p (map f xs)) (keep p (map f xs)) ≡ map f (cond b (x ∷ keep q xs) (keep q xs))
+      go : (b : Bool) → filter p (map f xs) ≡ map f (filter q xs)
+          → cond b (f x ∷ filter p (map f xs)) (filter p (map f xs)) ≡ map f (cond b (x ∷ filter q xs) (filter q xs))
       go true e = ap (◌∷◌ (f x)) e
       go false e = e
 
   -- all images pass where all elements do
-  pub all_map : (xs : List A) → all p (map f xs) ≡ all q xs
+  pub all_map : (xs : List A) → list_all p (map f xs) ≡ list_all q xs
   all_map [] = refl
   all_map (x ∷ xs) = rw (agree x, all_map xs)
 

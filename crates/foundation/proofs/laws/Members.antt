@@ -11,7 +11,8 @@ use mathlib.Core.Bool.{Bool, true, false, cond}
 use mathlib.Core.List.Memᴰ
 use mathlib.Core.List.{List, [], ◌∷◌, map, flat_map, Memᴰ}
 use lib.ListN.{length, get_or}
-use Rattle.foundation.specs.Lists.{Each, each_nil, each_cons, keep}
+use Rattle.foundation.specs.Lists.{Each, each_nil, each_cons}
+use Rattle.std.specs.List.{filter}
 
 -- what holds of each element holds of a member
 pub each_member : {A : Type 0} {P : A → Type 0} {x : A} {xs : List A} → Each P xs → Memᴰ x xs → P x
@@ -32,25 +33,25 @@ members_each (x ∷ xs) h = each_cons (h x (Memᴰ.head refl)) (members_each xs 
 
 -- the members of the elements that pass a test are the members that pass it
 module _ {A : Type 0} (p : A → Bool) {x : A} where
-  kept_member : (xs : List A) → Memᴰ x (keep p xs) → Memᴰ x xs × (p x ≡ true)
+  kept_member : (xs : List A) → Memᴰ x (filter p xs) → Memᴰ x xs × (p x ≡ true)
   kept_member [] m = absurd (Memᴰ.not-nil m)
   kept_member (y ∷ ys) m = go (p y) refl m (λ later. let both = kept_member ys later in (Memᴰ.tail both.0, both.1))
     where
-      go : (b : Bool) → p y ≡ b → Memᴰ x (cond b (y ∷ keep p ys) (keep p ys))
-          → (Memᴰ x (keep p ys) → Memᴰ x (y ∷ ys) × (p x ≡ true)) → Memᴰ x (y ∷ ys) × (p x ≡ true)
+      go : (b : Bool) → p y ≡ b → Memᴰ x (cond b (y ∷ filter p ys) (filter p ys))
+          → (Memᴰ x (filter p ys) → Memᴰ x (y ∷ ys) × (p x ≡ true)) → Memᴰ x (y ∷ ys) × (p x ≡ true)
       go true e m rest = ⊎_elim (λ here. (Memᴰ.head here, ap p here ∙ e)) rest (Memᴰ.cases_cons m)
       go false e m rest = rest m
 
-  member_kept : {xs : List A} → p x ≡ true → Memᴰ x xs → Memᴰ x (keep p xs)
+  member_kept : {xs : List A} → p x ≡ true → Memᴰ x xs → Memᴰ x (filter p xs)
   member_kept passes (Memᴰ.head {x = y} {xs = ys} e) = rw (ap p (sym e) ∙ passes) (Memᴰ.head e)
   member_kept passes (Memᴰ.tail {x = y} {xs = ys} m) = go (p y) (member_kept passes m)
     where
-      go : (b : Bool) → Memᴰ x (keep p ys) → Memᴰ x (cond b (y ∷ keep p ys) (keep p ys))
+      go : (b : Bool) → Memᴰ x (filter p ys) → Memᴰ x (cond b (y ∷ filter p ys) (filter p ys))
       go true after = Memᴰ.tail after
       go false after = after
 
-  pub member_keep : (xs : List A) → Memᴰ x (keep p xs) ↔ (Memᴰ x xs × (p x ≡ true))
-  member_keep xs = (kept_member xs, λ both. member_kept both.1 both.0)
+  pub member_filter : (xs : List A) → Memᴰ x (filter p xs) ↔ (Memᴰ x xs × (p x ≡ true))
+  member_filter xs = (kept_member xs, λ both. member_kept both.1 both.0)
 
 -- the members of lists in turn, one for each element of a list
 module _ {A B : Type 0} (f : A → List B) {y : B} where

@@ -5,9 +5,10 @@
 use mathlib.Core.Path.{◌≡◌, sym, subst}
 use mathlib.Core.Bool.{Bool}
 use mathlib.Core.List.{List, [], ◌∷◌, ◌++◌, map, flat_map}
-use Rattle.foundation.specs.Lists.{Each, each_nil, each_cons, Ordered, ordered_nil, ordered_cons, keep}
+use Rattle.foundation.specs.Lists.{Each, each_nil, each_cons, Ordered, ordered_nil, ordered_cons}
+use Rattle.std.specs.List.{filter}
 use Rattle.foundation.proofs.laws.Booleans.{cond_either}
-use Rattle.foundation.proofs.laws.Each.{each_imply, each_always, each_append, each_both, each_keep, each_map, each_flat_map}
+use Rattle.foundation.proofs.laws.Each.{each_imply, each_always, each_append, each_both, each_filter, each_map, each_flat_map}
 
 module _ {A : Type 0} {R : A → A → Type 0} where
   -- elements that are related are related in another way too
@@ -27,10 +28,10 @@ module _ {A : Type 0} {R : A → A → Type 0} where
   ordered_distinct irreflexive = ordered_imply (λ x y related same. irreflexive x (subst (R x) (sym same) related))
 
   -- the elements that pass a test
-  pub ordered_keep : (p : A → Bool) {xs : List A} → Ordered R xs → Ordered R (keep p xs)
-  ordered_keep p ordered_nil = ordered_nil
-  ordered_keep p (ordered_cons {x = x} first rest) =
-      cond_either (Ordered R) (p x) (ordered_cons (each_keep p first) (ordered_keep p rest)) (ordered_keep p rest)
+  pub ordered_filter : (p : A → Bool) {xs : List A} → Ordered R xs → Ordered R (filter p xs)
+  ordered_filter p ordered_nil = ordered_nil
+  ordered_filter p (ordered_cons {x = x} first rest) =
+      cond_either (Ordered R) (p x) (ordered_cons (each_filter p first) (ordered_filter p rest)) (ordered_filter p rest)
 
   -- two lists in turn, where the elements of the first are related to those of the second
   pub ordered_append : {xs ys : List A} → Ordered R xs → Ordered R ys → Each (λ (x : A). Each (R x) ys) xs → Ordered R (xs ++ ys)

@@ -8,7 +8,8 @@ use mathlib.Core.Path.{◌≡◌, refl}
 use mathlib.Core.Bool.{Bool, true, false, cond}
 use mathlib.Core.List.{List, [], ◌∷◌, ◌++◌, map}
 use lib.ListN.{length}
-use Rattle.foundation.specs.Lists.{Each, each_nil, each_cons, keep, sum}
+use Rattle.foundation.specs.Lists.{Each, each_nil, each_cons, sum}
+use Rattle.std.specs.List.{filter}
 
 module _ {A : Type 0} where
   -- a sum over two lists in turn
@@ -32,13 +33,13 @@ module _ {A : Type 0} where
   sum_le_length f h (x ∷ xs) = omega (arith, h x, sum_le_length f h xs)
 
   -- what is not kept counts 0
-  pub sum_keep : (f : A → ℕ) (p : A → Bool) (xs : List A) → sum (map f (keep p xs)) ≡ sum (map (λ (x : A). cond (p x) (f x) 0) xs)
-  sum_keep f p [] = refl
-  sum_keep f p (x ∷ xs) = go (p x) (sum_keep f p xs)
+  pub sum_filter : (f : A → ℕ) (p : A → Bool) (xs : List A) → sum (map f (filter p xs)) ≡ sum (map (λ (x : A). cond (p x) (f x) 0) xs)
+  sum_filter f p [] = refl
+  sum_filter f p (x ∷ xs) = go (p x) (sum_filter f p xs)
     where
       rest : ℕ
       rest = sum (map (λ (y : A). cond (p y) (f y) 0) xs)
 
-      go : (b : Bool) → sum (map f (keep p xs)) ≡ rest → sum (map f (cond b (x ∷ keep p xs) (keep p xs))) ≡ cond b (f x) 0 + rest
+      go : (b : Bool) → sum (map f (filter p xs)) ≡ rest → sum (map f (cond b (x ∷ filter p xs) (filter p xs))) ≡ cond b (f x) 0 + rest
       go true e = omega arith
       go false e = omega arith

@@ -12,9 +12,10 @@ use mathlib.Core.Bool.{false≢true}
 use mathlib.Core.List.{List, [], ◌∷◌, ◌++◌}
 use lib.ListN.{length, take, get_or, length-append}
 use lib.Seq.{take-suc, take_all, length-take-le}
-use Rattle.foundation.specs.Lists.{all}
+use Rattle.std.specs.List.{list_all}
 use Rattle.foundation.proofs.laws.Booleans.{by_test}
-use Rattle.foundation.proofs.laws.Each.{all_append, all_at}
+use Rattle.std.proofs.lemmas.List.Folds.{list_all-append}
+use Rattle.foundation.proofs.laws.Each.{all_at}
 use Rattle.hex_digits.specs.Digits.{digit_of, is_digit, digit_value, read_hex, number_in, most_digits}
 use Rattle.hex_digits.proofs.laws.DigitLaws.{digit_below}
 use Rattle.hex_digits.proofs.laws.NumberLaws.{number_digits, number_below}
@@ -43,7 +44,7 @@ module _ (digits : List ℕ) (at number : ℕ) (less : at < length digits) (so_f
       rw (
         add-one at,
         take-suc digits at 0 less,
-        all_append is_digit (take at digits) (get_or digits at 0 ∷ []),
+        list_all-append is_digit (take at digits) (get_or digits at 0 ∷ []),
         before.digits,
         read_snoc (take at digits) (get_or digits at 0),
         before.number,
@@ -60,7 +61,7 @@ module _ (digits : List ℕ) (at number : ℕ) (less : at < length digits) (so_f
   unfolding is_digit number_in
   other_read e =
       by_test
-      (all is_digit digits)
+      (list_all is_digit digits)
       (λ t. absurd (false≢true (rw e at (all_at is_digit digits at 0 t less))))
       (λ f. rw f)
 

@@ -1,9 +1,13 @@
 -- An answer that is a refusal or a result, by whether there is a refusal: its number and its value
--- are those of the refusal, and it tells which of the two it is.
+-- are those of the refusal, it tells which of the two it is, and a refusal leaves what was lent as
+-- it was.
 -- Assumes nothing.
-use Rattle.std.specs.Prelude.{Option, None, Some, Ok, Err}
+use Rattle.std.specs.Prelude.{Option, None, Some, Result, Ok, Err}
 use Prim.Native.Nat.{ℕ}
 use mathlib.Core.Path.{◌≡◌, refl}
+use mathlib.Core.Logic.{◌↔◌}
+use mathlib.Core.List.{List}
+use Rattle.foundation.proofs.laws.Booleans.{impossible}
 use Rattle.limits.specs.declared.Refusal.{Refusal}
 use Rattle.limits.specs.Refusals.{number, value, number_given, value_given, Numbered, answer, answered, answer_number, answer_value}
 
@@ -22,11 +26,30 @@ unfolding number_given value_given answer_number answer_value
 answer_numbered None result = record { number_is = refl; value_is = refl }
 answer_numbered (Some r) result = record { number_is = refl; value_is = refl }
 
-pub answered_err : {X : Type 0} (o : Option Refusal) (result : X) {r : Refusal} → Err r ≡ answered o result → o ≡ Some r
-answered_err None result e = cc
-answered_err (Some s) result e = cc
+pub numbered : {X : Type 0} (o : Option Refusal) (result : X) {r : Result X Refusal} → r ≡ answered o result
+    → Numbered o (answer_number r) (answer_value r)
+numbered o result e = rw e (answer_numbered o result)
 
-pub answered_ok : {X : Type 0} (o : Option Refusal) (result : X) {made : X} → Ok made ≡ answered o result
-    → (o ≡ None) × (made ≡ result)
-answered_ok None result e = (refl, cc)
-answered_ok (Some s) result e = cc
+-- a call answers with a refusal exactly when it was given it, and with a result only where it was
+-- given none
+module _ {X : Type 0} where
+  pub answer_refused : (o : Option Refusal) (result : X) (r : Refusal) → (answered o result ≡ Err r) ↔ (o ≡ Some r)
+  answer_refused None result r = (λ e. impossible (cc), λ e. impossible (cc))
+  answer_refused (Some s) result r = (λ e. cc, λ e. cc)
+
+  pub answer_accepted : (o : Option Refusal) (result other : X) → answered o result ≡ Ok other → (o ≡ None) × (result ≡ other)
+  answer_accepted None result other e = (refl, cc)
+  answer_accepted (Some s) result other e = impossible (cc)
+
+-- what a call answers by its refusal, if it has one, and leaves in a buffer that held something
+pub record AnsweredAs {X : Type 0} (o : Option Refusal) (result : X) (made before : List ℕ) (given : Result X Refusal) (after : List ℕ) : Type 0 where
+  pub answers : given ≡ answered o result
+  pub leaves : after ≡ answer (λ (r : Refusal). before) o made
+  pub numbered : Numbered o (answer_number given) (answer_value given)
+
+module _ {X : Type 0} {o : Option Refusal} (result : X) (made before : List ℕ) where
+  pub refused_as : {r : Refusal} → o ≡ Some r → AnsweredAs o result made before (Err r) before
+  refused_as e = rw e (record { answers = refl; leaves = refl; numbered = answer_numbered (Some _) result })
+
+  pub answered_as : o ≡ None → AnsweredAs o result made before (Ok result) made
+  answered_as e = rw e (record { answers = refl; leaves = refl; numbered = answer_numbered None result })

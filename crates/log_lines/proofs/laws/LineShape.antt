@@ -14,7 +14,8 @@ use borrow.Author.Tests.{le-leb, leb-true, eq-eqb, eqb-true, eqb-false, ne_eqb, 
 use lib.Dec.{eqb, leb}
 use lib.ListN.{length, take, drop, take-append-drop, length-append}
 use lib.Seq.{take-append-le, take_at, drop_at, drop-drop, length-take-le}
-use Rattle.foundation.specs.Lists.{each_nil, each_cons, all}
+use Rattle.foundation.specs.Lists.{each_nil, each_cons}
+use Rattle.std.specs.List.{list_all}
 use Rattle.foundation.proofs.laws.Booleans.{by_test, impossible}
 use Rattle.foundation.proofs.laws.Each.{each_append, each_back, each_take, all_each, each_all}
 use Rattle.limits.specs.declared.Refusal.{Refusal}
@@ -56,12 +57,12 @@ pub record Counted (text : List ℕ) (n : ℕ) : Type 0 where
 
 -- the test of a count at the front of a text
 abbrev has_count : List ℕ → Bool
-has_count text = leb count_digits (length text) && all is_digit (take count_digits text) && not (eqb (read_hex (take count_digits text)) 0)
+has_count text = leb count_digits (length text) && list_all is_digit (take count_digits text) && not (eqb (read_hex (take count_digits text)) 0)
 
 counted_front : (text : List ℕ) → has_count text ≡ true → Counted text (read_hex (take count_digits text))
 counted_front text e =
     let long = leb count_digits (length text) in
-    let digits = all is_digit (take count_digits text) in
+    let digits = list_all is_digit (take count_digits text) in
     let zero = eqb (read_hex (take count_digits text)) 0 in
     let parts₂ = (and-eq-true_iff (long && digits) (not zero)).0 e in
     let parts₁ = (and-eq-true_iff long digits).0 parts₂.0 in
@@ -144,7 +145,7 @@ module _ (text : List ℕ) (n : ℕ) (c : Counted text n) where
   unfolding in_pairs
   in_pairs_lem e =
       let even = eqb (length rest.bytes % 2) 0 in
-      let digits = all is_digit rest.bytes in
+      let digits = list_all is_digit rest.bytes in
       let parts₂ = (and-eq-true_iff (rest.ended && even) digits).0 e in
       let parts₁ = (and-eq-true_iff rest.ended even).0 parts₂.0 in
       record {

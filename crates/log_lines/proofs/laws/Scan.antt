@@ -12,7 +12,7 @@ use native.Mathlib.Omega.{arith}
 use borrow.Author.Tests.{eqb-true, eqb-false, ne_eqb}
 use lib.Dec.{eqb, leb}
 use lib.ListN.{length, take, drop, get_or, length-drop}
-use Rattle.foundation.specs.Lists.{all, any, foldl}
+use Rattle.std.specs.List.{list_all, list_any, fold}
 use Rattle.foundation.proofs.laws.Booleans.{by_test}
 use Rattle.log_lines.specs.declared.Activities.{Activities}
 use Rattle.log_lines.specs.declared.Phase.{Phase}
@@ -48,8 +48,8 @@ reading A at phase unknown l =
     (in_pairs l)
     (ended
     (at + length l.bytes)
-    (foldl next_phase phase (read_pairs l.bytes))
-    (unknown || any (leb A) (read_pairs l.bytes)))
+    (fold next_phase phase (read_pairs l.bytes))
+    (unknown || list_any (leb A) (read_pairs l.bytes)))
     None
 
 even : (n : ℕ) → suc (suc n) % 2 ≡ n % 2
@@ -102,7 +102,7 @@ module _ (A at : ℕ) (phase : Phase) (unknown : Bool) where
   at_first_feed first bytes e = rw (eqb-true first line_feed e, first_feed bytes, at_feed)
 
   -- at two bytes of which one is no digit
-  at_non_digits : (first second : ℕ) (bytes : List ℕ) → eqb first line_feed ≡ false → all is_digit (first ∷ second ∷ []) ≡ false
+  at_non_digits : (first second : ℕ) (bytes : List ℕ) → eqb first line_feed ≡ false → list_all is_digit (first ∷ second ∷ []) ≡ false
       → None ≡ reading A at phase unknown (first_line (first ∷ second ∷ bytes))
   at_non_digits first second bytes e f =
       rw (first_byte first (second ∷ bytes) (eqb-false first line_feed e))
@@ -131,7 +131,7 @@ scan_reads A at phase unknown (first ∷ (second ∷ bytes)) =
     (eqb first line_feed)
     (λ e. rw e (at_first_feed A at phase unknown first (second ∷ bytes) e))
     (λ e. by_test
-    (all is_digit (first ∷ second ∷ []))
+    (list_all is_digit (first ∷ second ∷ []))
     (λ f. rw (e, digits_number (first ∷ second ∷ []) f)
     (let d = (and-eq-true_iff (is_digit first) (is_digit second)).0 (rw (and-true (is_digit second)) at f) in
     rw (

@@ -44,10 +44,6 @@ module _ (A : ℕ) (p : Place) where
   unfolding through place_under
   no_outputs e = rw (eq-eqb p.outputs 0 e, and-false)
 
-  pub bounds_decide : (p.inputs ≡ 0 → ⊥) → (p.outputs ≡ 0 → ⊥) → place_under A p ≡ (below A p.inputs && below A p.outputs)
-  unfolding through place_under
-  bounds_decide some_input some_output = rw (ne_eqb p.inputs 0 some_input, ne_eqb p.outputs 0 some_output)
-
 -- a place under a bound is under a wider one
 pub under_wider : (A B : ℕ) (p : Place) → A ≤ B → place_under A p ≡ true → place_under B p ≡ true
 unfolding place_under

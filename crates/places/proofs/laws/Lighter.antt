@@ -10,8 +10,9 @@ use mathlib.Core.Path.{◌≡◌, refl}
 use mathlib.Core.Logic.{◌↔◌}
 use mathlib.Core.Bool.{Bool, true, false, and-eq-true_iff}
 use borrow.Author.Tests.{eqb-true, eqb-false}
-use Rattle.foundation.specs.Lists.{all, up_to}
-use Rattle.foundation.proofs.laws.Each.{all_keep, all_kept, each_up_to, up_to_each}
+use Rattle.foundation.specs.Lists.{up_to}
+use Rattle.std.specs.List.{list_all}
+use Rattle.foundation.proofs.laws.Each.{all_filter, all_kept, each_up_to, up_to_each}
 use Rattle.limits.specs.Settings.{most_activities}
 use Rattle.places.specs.declared.Place.{Place}
 use Rattle.places.specs.Sets.{has, member, codes, within}
@@ -19,10 +20,10 @@ use Rattle.places.specs.Places.{lighter}
 
 -- all codes of a set pass a test exactly if every code that is in the set does
 pub codes_all : (test : ℕ → Bool) (s : ℕ)
-    → (all test (codes s) ≡ true) ↔ ((a : ℕ) → a < most_activities → member s a ≡ true → test a ≡ true)
+    → (list_all test (codes s) ≡ true) ↔ ((a : ℕ) → a < most_activities → member s a ≡ true → test a ≡ true)
 unfolding codes
 codes_all test s = (
-  λ e. up_to_each most_activities (all_keep test (member s) (up_to most_activities) e),
+  λ e. up_to_each most_activities (all_filter test (member s) (up_to most_activities) e),
   λ h. all_kept test (member s) (each_up_to most_activities h),
 )
 

@@ -53,6 +53,9 @@ module _ (words : List ℕ) (short : Bool) where
       let both = first_none (words_fault 0 words) (None ∷ given short BufferTooSmall ∷ None ∷ None ∷ None ∷ []) e in
       (both.0, given_none short BufferTooSmall (first_none (given short BufferTooSmall) (None ∷ None ∷ None ∷ []) both.1).0)
 
+-- what the check of a list needs
+pub ruleset list_checks = (invalid_refused, room_decides)
+
 -- each word of a list without a fault stands for a place
 pub all_valid : (index : ℕ) (words : List ℕ) → words_fault index words ≡ None → Each (λ (w : ℕ). valid w ≡ true) words
 unfolding words_fault place_fault

@@ -11,7 +11,7 @@ use mathlib.Core.List.{List, Memᴰ}
 use borrow.Author.Tests.{leb-false}
 use lib.Bits.{bit_and, and_self}
 use lib.Count.{ones}
-use Rattle.foundation.specs.Lists.{any}
+use Rattle.std.specs.List.{list_any}
 use Rattle.foundation.proofs.laws.Booleans.{by_test}
 use Rattle.foundation.proofs.laws.Each.{none_each}
 use Rattle.foundation.proofs.laws.Members.{each_member}
@@ -66,18 +66,18 @@ module _ (f g : ℕ → ℕ) (f_parts : (w l : ℕ) → Part w l → f w + f (l 
       omega (arith, together l w part (all w m (usable_here whole left l w small u)) later, ap (λ (n : ℕ). f n * g left) same, ap (λ (n : ℕ). f left * g n) same)
 
 -- of a word that can be the next part, where none of those passes a test
-fails : (words : List ℕ) (whole left : ℕ) (test : ℕ → Bool) → any (λ (w : ℕ). usable whole left w && test w) words ≡ false
+fails : (words : List ℕ) (whole left : ℕ) (test : ℕ → Bool) → list_any (λ (w : ℕ). usable whole left w && test w) words ≡ false
     → (w : ℕ) → Memᴰ w words → usable whole left w ≡ true → test w ≡ false
 fails words whole left test none w m u = ap (λ (b : Bool). b && test w) (sym u) ∙ each_member (none_each _ words none) m
 
 module _ {words : List ℕ} {whole left : ℕ} where
-  too_few : any (λ (w : ℕ). usable whole left w && many_inputs left w) words ≡ false → (left ≡ 0 → ⊥) → Cover words whole left → ⊥
+  too_few : list_any (λ (w : ℕ). usable whole left w && many_inputs left w) words ≡ false → (left ≡ 0 → ⊥) → Cover words whole left → ⊥
   unfolding many_inputs ones
   too_few none some cover =
       one_sided input_count output_count part_inputs part_outputs refl words whole left (λ w m u.
       leb-false _ _ (fails words whole left (many_inputs left) none w m u)) refl some cover
 
-  too_many : any (λ (w : ℕ). usable whole left w && few_inputs left w) words ≡ false → (left ≡ 0 → ⊥) → Cover words whole left → ⊥
+  too_many : list_any (λ (w : ℕ). usable whole left w && few_inputs left w) words ≡ false → (left ≡ 0 → ⊥) → Cover words whole left → ⊥
   unfolding few_inputs ones
   too_many none some cover =
       one_sided output_count input_count part_outputs part_inputs refl words whole left (λ w m u.
@@ -88,6 +88,6 @@ module _ {words : List ℕ} {whole left : ℕ} where
   unfolding balanced
   unbalanced e some cover =
       by_test
-      (any (λ (w : ℕ). usable whole left w && many_inputs left w) words)
+      (list_any (λ (w : ℕ). usable whole left w && many_inputs left w) words)
       (λ t. too_many (rw t at e) some cover)
       (λ t. too_few t some cover)

@@ -16,7 +16,7 @@ use lib.Dec.{eqb}
 use lib.ListN.{length}
 use borrow.Author.Tests.{eqb-true, eqb-false, eq-eqb, ne_eqb, not-true}
 use Rattle.foundation.proofs.laws.Booleans.{by_test}
-use Rattle.foundation.proofs.laws.Members.{each_member, member_keep}
+use Rattle.foundation.proofs.laws.Members.{each_member, member_filter}
 use Rattle.limits.specs.Settings.{most_activities}
 use Rattle.places.specs.Sets.{has, member}
 use Rattle.places.specs.Places.{place_of, place_under}
@@ -91,7 +91,7 @@ module _ {words : List ℕ} {whole : ℕ} where
   unfolding choices
   uncoverable a h none cover =
       let found = covering_part a h cover in
-      member_length ((member_keep _ words).1 (found.1, rw (found.2, found.3))) none
+      member_length ((member_filter _ words).1 (found.1, rw (found.2, found.3))) none
 
   -- where something is left, both inputs and outputs are
   pub both_halves : {left : ℕ} → Listable words → Cover words whole left → (left ≡ 0 → ⊥) → (65536 ≤ left) × (left % 65536 ≡ 0 → ⊥)

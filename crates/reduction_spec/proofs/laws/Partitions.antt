@@ -11,7 +11,8 @@ use mathlib.Core.Bool.{true, and-eq-true_iff}
 use mathlib.Core.List.{List, [], ◌∷◌, map}
 use lib.Bits.{bit_and, and_zero_r}
 use lib.ListN.{length}
-use Rattle.foundation.specs.Lists.{Each, each_nil, each_cons, all, pairwise}
+use Rattle.foundation.specs.Lists.{Each, each_nil, each_cons, pairwise}
+use Rattle.std.specs.List.{list_all}
 use Rattle.foundation.proofs.laws.Lists.{each_head}
 use Rattle.foundation.proofs.laws.Each.{each_imply}
 use Rattle.places.specs.Places.{place_of, non_overlapping, join}
@@ -31,7 +32,7 @@ Small w = w < 2 ^ 32
 
 -- a place overlaps none of the words' places exactly if its word shares no bit with the whole
 apart_all : (v : ℕ) → Small v → (ws : List ℕ) (n : ℕ) → Partition ws n
-    → (all (non_overlapping (place_of v)) (map place_of ws) ≡ true) ↔ (bit_and v n ≡ 0)
+    → (list_all (non_overlapping (place_of v)) (map place_of ws) ≡ true) ↔ (bit_and v n ≡ 0)
 apart_all v small [] n made = (λ e. rw made (and_zero_r v), λ e. refl)
 apart_all v small (w ∷ ws) n made =
     let rest = apart_all v small ws (n - w) made.1 in (
@@ -39,9 +40,9 @@ apart_all v small (w ∷ ws) n made =
       λ e. let both = (apart_both v w n made.0).0 e in tests.1 ((places_apart v w small).1 both.0, rest.1 both.1),
     )
   where
-    tests : (all (non_overlapping (place_of v)) (map place_of (w ∷ ws)) ≡ true)
-        ↔ ((non_overlapping (place_of v) (place_of w) ≡ true) × (all (non_overlapping (place_of v)) (map place_of ws) ≡ true))
-    tests = and-eq-true_iff (non_overlapping (place_of v) (place_of w)) (all (non_overlapping (place_of v)) (map place_of ws))
+    tests : (list_all (non_overlapping (place_of v)) (map place_of (w ∷ ws)) ≡ true)
+        ↔ ((non_overlapping (place_of v) (place_of w) ≡ true) × (list_all (non_overlapping (place_of v)) (map place_of ws) ≡ true))
+    tests = and-eq-true_iff (non_overlapping (place_of v) (place_of w)) (list_all (non_overlapping (place_of v)) (map place_of ws))
 
 -- the places of words that make up a whole of 32 bits are non-overlapping, and their union is its place
 pub record Places (ws : List ℕ) (n : ℕ) : Type 0 where
@@ -60,7 +61,7 @@ partition_places (each_cons {x = w} {xs = ws} here later) n made =
       small = rw whole at (apart_small 32 w (n - w) here rest.small clear);
       joined = ap (join (place_of w)) rest.joined ∙ join_apart w (n - w) here rest.small clear ∙ ap place_of whole;
       apart =
-          (and-eq-true_iff (all (non_overlapping (place_of w)) (map place_of ws)) (pairwise non_overlapping (map place_of ws))).1
+          (and-eq-true_iff (list_all (non_overlapping (place_of w)) (map place_of ws)) (pairwise non_overlapping (map place_of ws))).1
           ((apart_all w here ws (n - w) made.1).1 clear, rest.apart);
     }
 
@@ -68,7 +69,7 @@ partition_places (each_cons {x = w} {xs = ws} here later) n made =
 pub places_partition : {ws : List ℕ} → Each Small ws → pairwise non_overlapping (map place_of ws) ≡ true → (n : ℕ) × Partition ws n
 places_partition each_nil e = (0, refl)
 places_partition (each_cons {x = w} {xs = ws} here later) e =
-    let both = (and-eq-true_iff (all (non_overlapping (place_of w)) (map place_of ws)) (pairwise non_overlapping (map place_of ws))).0 e in
+    let both = (and-eq-true_iff (list_all (non_overlapping (place_of w)) (map place_of ws)) (pairwise non_overlapping (map place_of ws))).0 e in
     let rest = places_partition later both.1 in
     let left : w + rest.0 - w ≡ rest.0 = omega arith in
     (w + rest.0, (apart_part w rest.0 ((apart_all w here ws rest.0 rest.1).0 both.0), rw left rest.1))

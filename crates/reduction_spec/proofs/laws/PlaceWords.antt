@@ -13,10 +13,11 @@ use lib.Bits.{bit_and, and_shr, and_mod, and_le_l}
 use lib.Dec.{eqb}
 use lib.Pow.{mod-pow-add}
 use borrow.Author.Tests.{eqb-true, eqb-false, ne_eqb, not-true}
-use Rattle.foundation.specs.Lists.{keep, sum, up_to}
+use Rattle.foundation.specs.Lists.{sum, up_to}
+use Rattle.std.specs.List.{filter}
 use Rattle.foundation.proofs.laws.Any.{not_any}
 use Rattle.foundation.proofs.laws.Booleans.{by_test}
-use Rattle.foundation.proofs.laws.Sums.{sum_append, sum_add, sum_keep}
+use Rattle.foundation.proofs.laws.Sums.{sum_append, sum_add, sum_filter}
 use Rattle.limits.specs.Settings.{most_activities}
 use Rattle.places.specs.Sets.{has, member, codes, disjoint, union}
 use Rattle.places.specs.Places.{place, word, place_of, non_overlapping, join}
@@ -73,9 +74,9 @@ counted (suc zero) (suc y) n e l m = omega arith
 counted (suc (suc x)) y n e l m = omega arith
 
 module _ (s t : ℕ) (e : bit_and s t ≡ 0) where
-  either_sum : (k : ℕ) → sum (map (λ (a : ℕ). 2 ^ a) (keep (λ (a : ℕ). member s a || member t a) (up_to k))) ≡ s % 2 ^ k + t % 2 ^ k
+  either_sum : (k : ℕ) → sum (map (λ (a : ℕ). 2 ^ a) (filter (λ (a : ℕ). member s a || member t a) (up_to k))) ≡ s % 2 ^ k + t % 2 ^ k
   either_sum k =
-      sum_keep (λ (a : ℕ). 2 ^ a) (λ (a : ℕ). member s a || member t a) (up_to k)
+      sum_filter (λ (a : ℕ). 2 ^ a) (λ (a : ℕ). member s a || member t a) (up_to k)
       ∙ sym
       (sum_add
       (λ (a : ℕ). has s a * 2 ^ a)

@@ -1,24 +1,20 @@
 -- The reduction of words that each stand for a place, with a second buffer that has room for all of
 -- them, is not refused: it answers how many words it kept, and they can be taken from the front of
--- that buffer. Any other is refused: the check of the words and of the room finds the call's
--- refusal, which leaves the buffer as it was. An answer as defined has the number and the value of
--- the call's refusal.
+-- that buffer. Any other is refused, and a refusal leaves the buffer as it was.
 -- Assumes nothing.
 use Rattle.std.specs.Prelude.{None, Some, Result, Ok, Err}
 use Prim.Native.Nat.{ℕ, ◌≤◌, ◌<◌}
-use mathlib.Core.Path.{◌≡◌, refl, sym, ◌∙◌}
-use mathlib.Core.Bool.{Bool, not}
+use mathlib.Core.Path.{◌≡◌, refl}
 use mathlib.Core.List.{List}
-use borrow.Author.Tests.{lt-ltb, le-ltb, leb-true, leb-false, not-false}
-use lib.Dec.{leb}
+use borrow.Author.Tests.{lt-ltb, le-ltb, ltb-false}
+use lib.Dec.{ltb}
 use lib.ListN.{length, take}
 use Rattle.foundation.specs.Buffers.{overwrite}
-use Rattle.foundation.proofs.laws.Booleans.{by_test}
 use Rattle.foundation.proofs.laws.Buffers.{take_overwritten}
 use Rattle.limits.specs.declared.Refusal.{Refusal}
 use Rattle.limits.specs.declared.Refusal.TheVariants.{InvalidPlace, BufferTooSmall}
-use Rattle.limits.specs.Refusals.{first_refusal, Numbered, answer_number, answer_value}
-use Rattle.limits.proofs.laws.AnswerNumbers.{answer_numbered}
+use Rattle.limits.specs.Refusals.{first_refusal}
+use Rattle.limits.proofs.laws.AnswerNumbers.{AnsweredAs, refused_as}
 use Rattle.places.specs.Places.{words_fault, words_refusal}
 use Rattle.places.proofs.laws.ListFaults.{has_room, all_valid, valid_no_fault}
 use Rattle.reduction_spec.specs.Cover.{Listable}
@@ -41,66 +37,33 @@ module _ (words : List ℕ) (places : Listable words) where
       → take (length (reduced_words words)) (reduced_after words before) ≡ reduced_words words
   kept_taken before enough = rw (kept_written before enough) (take_overwritten before (reduced_words words))
 
+-- what a call answers and leaves in the second buffer is as defined
+abbrev pub ReducedAs : List ℕ → List ℕ → Result ℕ Refusal → List ℕ → Type 0
+ReducedAs words before =
+    AnsweredAs (reduction_refusal words (length before)) (length (reduced_words words)) (overwrite (reduced_words words) before) before
+
 -- a refusal leaves the second buffer as it was
-pub record RefusedAs (words before : List ℕ) (r : Refusal) : Type 0 where
-  pub answers : reduced words (length before) ≡ Err r
-  pub leaves : reduced_after words before ≡ before
+abbrev pub RefusedAs : List ℕ → List ℕ → Refusal → Type 0
+RefusedAs words before r = ReducedAs words before (Err r) before
 
 module _ (words before : List ℕ) where
-  refused_as : {r : Refusal} → reduction_refusal words (length before) ≡ Some r → RefusedAs words before r
-  unfolding reduced reduced_after
-  refused_as e = record { answers = rw e; leaves = rw e }
+  -- what the second buffer would hold
+  abbrev pub list : List ℕ
+  list = overwrite (reduced_words words) before
 
   -- refusal 7, and where there is no such fault 8
   pub invalid_refused : (index : ℕ) → words_fault 0 words ≡ Some (InvalidPlace index) → RefusedAs words before (InvalidPlace index)
   unfolding reduction_refusal words_refusal first_refusal
-  invalid_refused index e = refused_as (rw e refl)
+  invalid_refused index e = refused_as (length (reduced_words words)) list before (rw e refl)
 
   pub short_refused : words_fault 0 words ≡ None → length before < length words → RefusedAs words before BufferTooSmall
   unfolding reduction_refusal words_refusal first_refusal
-  short_refused e less = refused_as (rw (e, lt-ltb (length before) (length words) less) refl)
-
--- what is answered as defined has the number and the value of the refusal
-pub reduced_numbered : (words : List ℕ) (room : ℕ) {r : Result ℕ Refusal} → r ≡ reduced words room
-    → Numbered (reduction_refusal words room) (answer_number r) (answer_value r)
-unfolding reduced
-reduced_numbered words room e = rw e (answer_numbered (reduction_refusal words room) _)
-
--- what a call answers and leaves in the second buffer is as defined
-pub record ReducedAs (words before : List ℕ) (answer : Result ℕ Refusal) (after : List ℕ) : Type 0 where
-  pub answers : answer ≡ reduced words (length before)
-  pub leaves : after ≡ reduced_after words before
-  pub numbered : Numbered (reduction_refusal words (length before)) (answer_number answer) (answer_value answer)
-
-module _ (words before : List ℕ) where
-  -- the buffer is too short
-  abbrev pub short : Bool
-  short = not (leb (length words) (length before))
-
-  -- the check of the words and of the room finds the call's refusal
-  same_refusal : words_refusal words short ≡ reduction_refusal words (length before)
-  unfolding reduction_refusal
-  same_refusal =
-      by_test
-      (leb (length words) (length before))
-      (λ e. rw (e, le-ltb (length before) (length words) (leb-true (length words) (length before) e)))
-      (λ e. rw (e, lt-ltb (length before) (length words) (leb-false (length words) (length before) e)))
-
-  reduced_as : {answer : Result ℕ Refusal} {after : List ℕ} → answer ≡ reduced words (length before) → after ≡ reduced_after words before
-      → ReducedAs words before answer after
-  reduced_as e leaves = record { answers = e; leaves = leaves; numbered = reduced_numbered words (length before) e }
-
-  pub refused : {r : Refusal} → words_refusal words short ≡ Some r → ReducedAs words before (Err r) before
-  unfolding reduced reduced_after
-  refused e = let is = sym same_refusal ∙ e in reduced_as (rw is refl) (rw is refl)
+  short_refused e less =
+      refused_as (length (reduced_words words)) list before (rw (e, lt-ltb (length before) (length words) less) refl)
 
   -- what is not refused is a list of places, for which there is room
-  pub checked : words_refusal words short ≡ None → Listable words × (length words ≤ length before)
-  unfolding Listable
+  pub checked : reduction_refusal words (length before) ≡ None → Listable words × (length words ≤ length before)
+  unfolding Listable reduction_refusal
   checked e =
-      let (valid, enough) = has_room words short e in
-      (all_valid 0 words valid, leb-true (length words) (length before) (not-false (leb (length words) (length before)) enough))
-
-  pub kept : words_refusal words short ≡ None → ReducedAs words before (Ok (length (reduced_words words))) (overwrite (reduced_words words) before)
-  unfolding reduced reduced_after
-  kept e = let is = sym same_refusal ∙ e in reduced_as (rw is refl) (rw is refl)
+      let (valid, enough) = has_room words (ltb (length before) (length words)) e in
+      (all_valid 0 words valid, ltb-false (length before) (length words) enough)

@@ -18,7 +18,8 @@ use Rattle.event_log_spec.specs.declared.LogSize.{LogSize}
 use Rattle.event_log_spec.specs.Frames.{WrittenLog}
 use Rattle.event_log_spec.specs.Lines.{frames_of}
 use Rattle.event_log_spec.specs.Checking.{log_refusal}
-use Rattle.event_log_spec.proofs.laws.LogChecks.{log_passes, answer_refused, answer_accepted}
+use Rattle.limits.proofs.laws.AnswerNumbers.{answer_refused, answer_accepted}
+use Rattle.event_log_spec.proofs.laws.LogChecks.{log_passes}
 use Rattle.event_log_spec.proofs.laws.Written.{text_written, bound_most}
 use Rattle.event_log_spec.proofs.laws.WiderBound.{log_wider}
 use Rattle.event_log.specs.Pass.{text_checked}

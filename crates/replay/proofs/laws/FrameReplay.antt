@@ -8,7 +8,7 @@ use mathlib.Core.Path.{◌≡◌}
 use mathlib.Core.Bool.{true}
 use mathlib.Core.List.{List}
 use lib.ListN.{length, drop, length-take, length-drop}
-use Rattle.foundation.specs.Lists.{all}
+use Rattle.std.specs.List.{list_all}
 use Rattle.foundation.proofs.laws.Each.{each_all, each_take, each_drop}
 use Rattle.limits.specs.Settings.{most_activities}
 use Rattle.places.specs.declared.Place.{Place}
@@ -26,7 +26,7 @@ use Rattle.replay.proofs.laws.FrameByFrame.{total_bounded}
 -- digits of which the codes are the frame's trace
 pub record DigitsOf (f : Frame) (digits : List ℕ) : Type 0 where
   pub short : length digits ≤ 2 * most_events
-  pub all_digits : all is_digit digits ≡ true
+  pub all_digits : list_all is_digit digits ≡ true
   pub trace : codes_in digits ≡ f.trace
 
 pub frame_digits : (f : Frame) → FrameUnder most_activities f → DigitsOf f (activity_digits f)

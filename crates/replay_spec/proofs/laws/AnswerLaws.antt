@@ -13,14 +13,14 @@ use Rattle.foundation.specs.Lists.{Each}
 use Rattle.foundation.proofs.laws.Lists.{each_head}
 use Rattle.limits.specs.declared.Refusal.{Refusal}
 use Rattle.limits.specs.Refusals.{Numbered, answer_number, answer_value}
-use Rattle.limits.proofs.laws.AnswerNumbers.{answer_numbered}
 use Rattle.limits.specs.Settings.{bound_fault, bound_and_threshold_fault}
 use Rattle.places.specs.declared.Place.{Place}
 use Rattle.places.specs.Places.{place_fault}
 use Rattle.event_log_spec.specs.Frames.{Frame, FrameUnder, WrittenLog, most_events, total_cases}
 use Rattle.event_log_spec.specs.Lines.{frames_of}
 use Rattle.event_log_spec.specs.Checking.{log_refusal}
-use Rattle.event_log_spec.proofs.laws.LogChecks.{log_passes, answer_accepted}
+use Rattle.limits.proofs.laws.AnswerNumbers.{answer_accepted, numbered}
+use Rattle.event_log_spec.proofs.laws.LogChecks.{log_passes}
 use Rattle.event_log_spec.proofs.laws.Written.{text_written}
 use Rattle.replay_spec.specs.declared.Balances.{Balances}
 use Rattle.replay_spec.specs.declared.Judgement.{Judgement}
@@ -56,7 +56,7 @@ module _ (A : ℕ) (text : List ℕ) (p : Place) where
   pub replayed_numbered : {r : Result Balances Refusal} → r ≡ replayed A text p
       → Numbered (log_refusal (bound_fault A) (place_fault A 0 p) A text) (answer_number r) (answer_value r)
   unfolding replayed
-  replayed_numbered e = rw e (answer_numbered _ _)
+  replayed_numbered e = numbered _ _ e
 
 module _ (A T : ℕ) (text : List ℕ) (p : Place) where
   -- the counts are those of all frames
@@ -70,4 +70,4 @@ module _ (A T : ℕ) (text : List ℕ) (p : Place) where
   pub judged_numbered : {r : Result Judgement Refusal} → r ≡ judged A T text p
       → Numbered (log_refusal (bound_and_threshold_fault A T) (place_fault A 0 p) A text) (answer_number r) (answer_value r)
   unfolding judged
-  judged_numbered e = rw e (answer_numbered _ _)
+  judged_numbered e = numbered _ _ e

@@ -11,7 +11,7 @@ use mathlib.Core.Path.{◌≡◌, refl, ap₂, ◌∙◌}
 use mathlib.Core.Bool.{Bool, true, false, cond, not, ◌&&◌, and_comm}
 use mathlib.Core.List.{List, ◌∷◌, ◌++◌, map}
 use Rattle.foundation.specs.Lists.{sum}
-use Rattle.foundation.proofs.laws.Sums.{sum_append, sum_add, sum_keep}
+use Rattle.foundation.proofs.laws.Sums.{sum_append, sum_add, sum_filter}
 use Rattle.places.specs.declared.Place.{Place}
 use Rattle.event_log_spec.specs.Frames.{Frame, total_cases}
 use Rattle.replay_spec.specs.Balance.{underfeeds, overfeeds}
@@ -24,7 +24,7 @@ cases_if test f = cond (test f.trace) f.cases 0
 -- the cases under a test as a sum over all frames
 pub cases_where_sum : (test : List ℕ → Bool) (frames : List Frame) → cases_where test frames ≡ sum (map (cases_if test) frames)
 unfolding cases_where total_cases
-cases_where_sum test frames = sum_keep (λ (f : Frame). f.cases) (λ (f : Frame). test f.trace) frames
+cases_where_sum test frames = sum_filter (λ (f : Frame). f.cases) (λ (f : Frame). test f.trace) frames
 
 -- all frames pass the test that always holds
 cases_where_true : (frames : List Frame) → cases_where (λ (t : List ℕ). true) frames ≡ total_cases frames

@@ -12,9 +12,9 @@ use lib.Dec.{ltb}
 use lib.ListN.{length, take, drop, get_or, get_or-eq_default}
 use lib.Seq.{take-add}
 use borrow.Author.Tests.{ltb-true, ltb-false, ne_eqb}
-use Rattle.foundation.specs.Lists.{all}
+use Rattle.std.specs.List.{list_all}
 use Rattle.foundation.proofs.laws.Booleans.{by_test, impossible}
-use Rattle.foundation.proofs.laws.Each.{all_append}
+use Rattle.std.proofs.lemmas.List.Folds.{list_all-append}
 use Rattle.limits.specs.declared.Settings.{Settings}
 use Rattle.hex_digits.specs.Digits.{is_digit, number_in, line_feed}
 use Rattle.hex_digits.proofs.laws.NumberLaws.{number_digits, no_number_others}
@@ -24,7 +24,7 @@ use Rattle.report_lines.specs.ProgramLines.{settings_frame_in}
 module _ (input : List ℕ) where
   pub frame_unended : (get_or input settings_digits 0 ≡ line_feed → ⊥) → settings_frame_in input ≡ None
   unfolding settings_frame_in settings_malformed
-  frame_unended h = rw (ne_eqb (get_or input settings_digits 0) line_feed h, and-false (all is_digit (take settings_digits input)))
+  frame_unended h = rw (ne_eqb (get_or input settings_digits 0) line_feed h, and-false (list_all is_digit (take settings_digits input)))
 
   pub frame_short : length input ≤ settings_digits → settings_frame_in input ≡ None
   frame_short h = let none = get_or-eq_default input 0 h in frame_unended (λ e. omega (arith, none, e))
@@ -34,12 +34,12 @@ module _ (input : List ℕ) where
       → settings_frame_in input ≡ None
   unfolding settings_frame_in settings_malformed
   number_missing before digits after parts e =
-      let some_other : all is_digit (take (before + (digits + after)) input) ≡ false =
+      let some_other : list_all is_digit (take (before + (digits + after)) input) ≡ false =
       rw (
         take-add before (digits + after) input,
-        all_append is_digit (take before input) (take (digits + after) (drop before input)),
+        list_all-append is_digit (take before input) (take (digits + after) (drop before input)),
         take-add digits after (drop before input),
-        all_append is_digit (take digits (drop before input)) (take after (drop digits (drop before input))),
+        list_all-append is_digit (take digits (drop before input)) (take after (drop digits (drop before input))),
         no_number_others (take digits (drop before input)) e,
         and-false,
       ) in
@@ -58,14 +58,14 @@ module _ (input : List ℕ) where
       let second = number_digits (take bound_digits (drop bound_digits input)) s.inputs i in
       let third = number_digits (take bound_digits (drop (2 * bound_digits) input)) s.outputs o in
       let fourth = number_digits (take threshold_digits (drop (3 * bound_digits) input)) s.threshold t in
-      let digits : all is_digit (take settings_digits input) ≡ true =
+      let digits : list_all is_digit (take settings_digits input) ≡ true =
       rw (
         take-add (3 * bound_digits) threshold_digits input,
-        all_append is_digit (take (3 * bound_digits) input) (take threshold_digits (drop (3 * bound_digits) input)),
+        list_all-append is_digit (take (3 * bound_digits) input) (take threshold_digits (drop (3 * bound_digits) input)),
         take-add (2 * bound_digits) bound_digits input,
-        all_append is_digit (take (2 * bound_digits) input) (take bound_digits (drop (2 * bound_digits) input)),
+        list_all-append is_digit (take (2 * bound_digits) input) (take bound_digits (drop (2 * bound_digits) input)),
         take-add bound_digits bound_digits input,
-        all_append is_digit (take bound_digits input) (take bound_digits (drop bound_digits input)),
+        list_all-append is_digit (take bound_digits input) (take bound_digits (drop bound_digits input)),
         first.digits,
         second.digits,
         third.digits,

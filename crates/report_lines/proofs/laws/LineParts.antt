@@ -1,59 +1,91 @@
--- What a buffer holds once a line was put into it part by part: the digits of three numbers, each
+-- What a buffer holds once a line was put into it part by part: the digits of its numbers, each
 -- behind those before it, and a line feed.
 -- Assumes nothing.
 use Prim.Native.Nat.{ℕ, ◌+◌, ◌-◌, ◌≤◌, ◌<◌}
+use native.Mathlib.Numerals.{add-one}
 use native.Mathlib.Omega.{arith}
-use mathlib.Core.Path.{◌≡◌, refl, sym}
+use mathlib.Core.Path.{◌≡◌, refl, sym, ap, ◌∙◌}
 use mathlib.Core.List.{List, [], ◌∷◌, ◌++◌, append-nil, append_assoc}
 use borrow.Rule.Slice.PartMut.{put_mid}
-use lib.ListN.{length, take, drop, set, length-append, length-drop}
-use lib.Seq.{length-take-le, take-length, drop-length, take-append_seam, drop-append_seam, drop_at, drop-drop}
+use lib.ListN.{length, get_or, take, drop, set, length-append, length-drop}
+use lib.Seq.{length-take-le, take-suc, take_all, take-length, drop-length, take-append_seam, drop-append_seam, drop_at, drop-drop}
+use Rattle.std.specs.List.{flat_map}
+use Rattle.std.proofs.lemmas.List.Concat.{flat_map-append}
+use Rattle.std.proofs.lemmas.List.Folds.{length-flat_map-take}
 use Rattle.foundation.specs.Buffers.{overwrite}
 use Rattle.foundation.proofs.laws.Buffers.{overwrite_more}
 use Rattle.hex_digits.specs.Digits.{write_hex, line_feed}
 use Rattle.hex_digits.proofs.laws.DigitLaws.{length_write}
 use Rattle.writer.proofs.laws.BufferParts.{overwrite_part}
+use Rattle.report_lines.specs.ProgramLines.{field_text, fields_line}
 
-module _ (buffer : List ℕ) where
-  -- what has room leaves the buffer as long as it was
-  pub overwrite_length : (words : List ℕ) → length words ≤ length buffer → length (overwrite words buffer) ≡ length buffer
-  overwrite_length words h = omega (arith, length-append words (drop (length words) buffer), length-drop (length words) buffer)
+-- the numbers before an index stand in front of the buffer
+pub record FieldsSo (fields : List (ℕ × ℕ)) (before text : List ℕ) (at index : ℕ) : Type 0 where
+  pub counted : at ≡ length (flat_map field_text (take index fields))
+  pub written : text ≡ overwrite (flat_map field_text (take index fields)) before
 
-  -- digits behind what was written
-  digits_put : (front : List ℕ) {text ys : List ℕ} (at room n : ℕ) → text ≡ overwrite front buffer → length front ≡ at → at + room ≤ length buffer
-      → ys ≡ write_hex (length (take room (drop at text))) n → put_mid at room text ys ≡ overwrite (front ++ write_hex room n) buffer
-  digits_put front {text} {ys} at room n so e fits d =
-      let rest = drop (length front) buffer in
-      let long = length-take-le room rest (omega (arith, length-drop (length front) buffer)) in
-      let digits : ys ≡ write_hex room n = rw (so, drop_at front rest at e, long) at d in
-      rw (so, digits) (overwrite_part buffer front (write_hex room n) at room (sym e) (sym (length_write room n)))
+-- what has room leaves a buffer as long as it was
+pub overwrite_length : (buffer words : List ℕ) → length words ≤ length buffer → length (overwrite words buffer) ≡ length buffer
+overwrite_length buffer words h = omega (arith, length-append words (drop (length words) buffer), length-drop (length words) buffer)
 
-  -- a byte behind what was written
-  byte_put : (words : List ℕ) {text : List ℕ} (at byte : ℕ) → text ≡ overwrite words buffer → length words ≡ at → at < length buffer
-      → set text at byte ≡ overwrite (words ++ (byte ∷ [])) buffer
-  byte_put words at byte so e fits =
-      rw (so, sym e) (overwrite_more buffer words byte (omega (arith, overwrite_length words (omega arith))))
+pub length_fields : (fields : List (ℕ × ℕ)) → length (fields_line fields) ≡ length (flat_map field_text fields) + 1
+unfolding fields_line
+length_fields fields = length-append (flat_map field_text fields) (line_feed ∷ [])
 
-  -- i digits of a number, j of a second and k of a third
-  module _ (a b c i j k : ℕ) (fits : i + j + k < length buffer) where
-    pub line_put : (x y z : List ℕ) → x ≡ write_hex (length (take i buffer)) a
-        → y ≡ write_hex (length (take j (drop i (put_mid 0 i buffer x)))) b
-        → z ≡ write_hex (length (take k (drop (i + j) (put_mid i j (put_mid 0 i buffer x) y)))) c
-        → set (put_mid (i + j) k (put_mid i j (put_mid 0 i buffer x) y) z) (i + j + k) line_feed
-        ≡ overwrite (write_hex i a ++ write_hex j b ++ write_hex k c ++ (line_feed ∷ [])) buffer
-    line_put x y z e f g =
-        let one = digits_put [] 0 i a refl refl (omega arith) e in
-        let two = digits_put (write_hex i a) i j b one (length_write i a) (omega arith) f in
-        let both : length (write_hex i a ++ write_hex j b) ≡ i + j =
-        omega (arith, length-append (write_hex i a) (write_hex j b), length_write i a, length_write j b) in
-        let three = digits_put (write_hex i a ++ write_hex j b) (i + j) k c two both (omega arith) g in
-        byte_put
-        (write_hex i a ++ write_hex j b ++ write_hex k c)
-        (i + j + k)
-        line_feed
-        three
-        (omega (arith, both, length-append (write_hex i a ++ write_hex j b) (write_hex k c), length_write k c))
-        fits
+module _ {fields : List (ℕ × ℕ)} {before : List ℕ} where
+  pub none_put : FieldsSo fields before before 0 0
+  none_put = record { counted = refl; written = refl }
+
+  module _ {text : List ℕ} {at index : ℕ} (f : FieldsSo fields before text at index) (room : length (fields_line fields) ≤ length before) where
+    abbrev front : List ℕ
+    front = flat_map field_text (take index fields)
+
+    -- there is room for one number more
+    pub next_fits : index < length fields → at + (get_or fields index (0, 0)).1 < length before
+    next_fits inside =
+        let field = get_or fields index (0, 0) in
+        omega (
+          arith,
+          room,
+          f.counted,
+          length_fields fields,
+          length-flat_map-take field_text fields index (0, 0) inside,
+          length_write field.1 field.0,
+        )
+
+    -- which is put behind them
+    pub next_put : {digits : List ℕ} → index < length fields
+        → digits ≡ write_hex (length (take (at + (get_or fields index (0, 0)).1 - at) (drop at text))) (get_or fields index (0, 0)).0
+        → FieldsSo fields before (put_mid at (at + (get_or fields index (0, 0)).1 - at) text digits) (at + (get_or fields index (0, 0)).1) (index + 1)
+    next_put {digits} inside e =
+        let field = get_or fields index (0, 0) in
+        let n = at + field.1 - at in
+        let rest = drop (length front) before in
+        let long : length (take n rest) ≡ field.1 =
+        length-take-le n rest (omega (arith, next_fits inside, f.counted, length-drop (length front) before)) ∙ omega arith in
+        let made : digits ≡ field_text field = rw (f.written, drop_at front rest at (sym f.counted), long) at e in
+        let more : front ++ field_text field ≡ flat_map field_text (take (index + 1) fields) =
+        sym (rw (add-one index, take-suc fields index (0, 0) inside) (flat_map-append field_text (take index fields) (field ∷ []) ∙ ap (◌++◌ front) (append-nil (field_text field)))) in
+        record {
+          counted = omega (arith, f.counted, ap length more, length-append front (field_text field), length_write field.1 field.0);
+          written =
+              rw (f.written, made) (overwrite_part before front (field_text field) at n f.counted (omega (arith, length_write field.1 field.0)))
+              ∙ ap (λ (line : List ℕ). overwrite line before) more;
+        }
+
+    -- behind all of them there is room for a line feed
+    pub end_fits : length fields ≤ index → at + 1 ≡ length (fields_line fields)
+    end_fits end =
+        omega (arith, f.counted, ap (λ (l : List (ℕ × ℕ)). length (flat_map field_text l)) (take_all index fields end), length_fields fields)
+
+    -- which ends the line
+    pub line_put : length fields ≤ index → set text at line_feed ≡ overwrite (fields_line fields) before
+    unfolding fields_line
+    line_put end =
+        let all = take_all index fields end in
+        let so : at ≡ length (flat_map field_text fields) = rw all at f.counted in
+        let long = overwrite_length before (flat_map field_text fields) (omega (arith, room, length_fields fields)) in
+        rw (f.written, all, so) (overwrite_more before (flat_map field_text fields) line_feed (omega (arith, room, length_fields fields, long)))
 
 -- a line written from the front of what lies behind other text
 pub rest_put : (buffer front line : List ℕ) {text ys : List ℕ} {at : ℕ} → text ≡ overwrite front buffer → at ≡ length front

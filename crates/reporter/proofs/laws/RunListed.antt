@@ -15,8 +15,8 @@ use mathlib.Core.List.{List, map}
 use lib.ListN.{length, take}
 use Rattle.foundation.proofs.laws.Booleans.{by_test, impossible}
 use Rattle.foundation.proofs.laws.Buffers.{take_overwritten}
-use Rattle.foundation.proofs.laws.Each.{each_always, keep_every}
-use Rattle.foundation.proofs.laws.Keeping.{keep_fewer}
+use Rattle.foundation.proofs.laws.Each.{each_always, filter_every}
+use Rattle.foundation.proofs.laws.Filtering.{filter_fewer}
 use Rattle.foundation.proofs.laws.Members.{members_each}
 use Rattle.limits.specs.declared.Refusal.{Refusal}
 use Rattle.limits.specs.declared.Settings.{Settings}
@@ -44,7 +44,7 @@ few_reduced : (words : List ℕ) → length (reduced_words words) ≤ length wor
 unfolding reduced_words
 few_reduced words =
     let every : ℕ → Bool = λ w. true in
-    rw (keep_every every (each_always (λ w. refl) words)) at (keep_fewer (λ (w : ℕ). not (redundant words w)) every (each_always (λ w t. refl) words))
+    rw (filter_every every (each_always (λ w. refl) words)) at (filter_fewer (λ (w : ℕ). not (redundant words w)) every (each_always (λ w t. refl) words))
 
 module _ (s : Settings) (text : List ℕ) (room : Capacity) (passes : run_refusal s text ≡ None) where
   -- a run finds no more words than its list takes, and no more are reported

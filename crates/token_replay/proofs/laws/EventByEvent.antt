@@ -11,7 +11,8 @@ use lib.IntN.{ℤ, pos, sub_ℕ, ◌+ℤ◌, ◌-ℤ◌}
 use lib.Signed.{le_z}
 use lib.ListN.{length, take, get_or}
 use lib.Seq.{take-suc, take-length}
-use Rattle.foundation.specs.Lists.{foldl, up_to}
+use Rattle.foundation.specs.Lists.{up_to}
+use Rattle.std.specs.List.{fold}
 use Rattle.foundation.proofs.laws.Booleans.{by_test}
 use Rattle.foundation.proofs.laws.Each.{length_up_to}
 use Rattle.foundation.proofs.laws.Sums.{sum_append}
@@ -51,7 +52,7 @@ least_last f (y ∷ []) x some = refl
 least_last f (y ∷ (z ∷ zs)) x some =
     ap (smaller (f y)) (least_last f (z ∷ zs) x (omega arith)) ∙ smaller_assoc (f y) (least_of (map f (z ∷ zs))) (f x)
 
-fold_last : {S A : Type 0} (f : S → A → S) (s : S) (xs : List A) (x : A) → foldl f s (xs ++ (x ∷ [])) ≡ f (foldl f s xs) x
+fold_last : {S A : Type 0} (f : S → A → S) (s : S) (xs : List A) (x : A) → fold f s (xs ++ (x ∷ [])) ≡ f (fold f s xs) x
 fold_last f s [] x = refl
 fold_last f s (y ∷ ys) x = fold_last f (f s y) ys x
 
@@ -95,16 +96,16 @@ module _ (p : Place) (trace : List ℕ) where
     unfolding after_event
     next = rw taken_next (λ i. record { balance = balance_next i; least = least_next k i })
 
-  after_events : (k : ℕ) → k ≤ length trace → foldl (after_event p) no_tokens (take k trace) ≡ after k
+  after_events : (k : ℕ) → k ≤ length trace → fold (after_event p) no_tokens (take k trace) ≡ after k
   unfolding count least_of
   after_events zero short = refl
   after_events (suc k) short =
-      ap (foldl (after_event p) no_tokens) (take-suc trace k 0 short)
+      ap (fold (after_event p) no_tokens) (take-suc trace k 0 short)
       ∙ fold_last (after_event p) no_tokens (take k trace) (get_or trace k 0)
       ∙ ap (λ (t : Tokens). after_event p t (get_or trace k 0)) (after_events k (omega arith))
       ∙ next k short
 
   -- after all events
-  pub event_by_event : foldl (after_event p) no_tokens trace ≡ after_trace p trace
+  pub event_by_event : fold (after_event p) no_tokens trace ≡ after_trace p trace
   unfolding least_balance last_balance
   event_by_event = rw take-length at (after_events (length trace) (omega arith))

@@ -3,7 +3,7 @@
 -- Assumes nothing.
 use Rattle.std.proofs.Common.{ℕ, List, [], ◌∷◌, ◌++◌, length, get_or, ◌≡◌, ap, ◌∙◌, ◌<◌, arith}
 use mathlib.Core.Bool.{and-eq-true_iff}
-use Rattle.foundation.specs.Lists.{all, foldl}
+use Rattle.std.specs.List.{list_all, fold}
 use Rattle.hex_digits.specs.Digits.{is_digit}
 use Rattle.places.specs.declared.Place.{Place}
 use Rattle.token_replay.specs.declared.DigitSets.{DigitSets}
@@ -22,15 +22,15 @@ module _ (digits : List ℕ) (sets : DigitSets) {tokens : Tokens} where
   one_more [] left two e r = absurd (omega arith)
   one_more (d ∷ []) left two e r = absurd (omega arith)
   one_more (d ∷ (digit ∷ [])) left two e r =
-      let first = (and-eq-true_iff (is_digit d) (all is_digit (digit ∷ left))).0 r.known in
-      let second = (and-eq-true_iff (is_digit digit) (all is_digit left)).0 first.1 in
+      let first = (and-eq-true_iff (is_digit d) (list_all is_digit (digit ∷ left))).0 r.known in
+      let second = (and-eq-true_iff (is_digit digit) (list_all is_digit left)).0 first.1 in
       rw e (
       record {
         few = omega (arith, mag_event sets tokens digit, r.few);
         known = second.1;
         alike = λ place same.
             ap
-            (λ (t : Tokens). foldl (after_event place) t (codes_in left))
+            (λ (t : Tokens). fold (after_event place) t (codes_in left))
             (ap (λ (s : DigitSets). after_digit s tokens digit) same ∙ event_by_digit place tokens digit second.0)
             ∙ r.alike place same;
       }

@@ -5,7 +5,7 @@
 use Rattle.std.proofs.Common.{ℕ, List, length, true, ◌≡◌, ◌+◌, ◌≤◌}
 use Rattle.std.specs.Int.Signed.{mag}
 use Rattle.std.specs.Slice.Iter.{chunks_exact_rest, chunks_exact_size}
-use Rattle.foundation.specs.Lists.{all, foldl}
+use Rattle.std.specs.List.{list_all, fold}
 use Rattle.hex_digits.specs.Digits.{is_digit}
 use Rattle.places.specs.declared.Place.{Place}
 use Rattle.token_replay.specs.declared.DigitSets.{DigitSets}
@@ -17,9 +17,9 @@ use Rattle.token_replay.proofs.replay_trace.Given as goal
 -- the tokens after the events whose digits stand before those that are left
 pub record Reached (digits left : List ℕ) (sets : DigitSets) (tokens : Tokens) : Type 0 where
   pub few : mag tokens.balance + length left ≤ length digits
-  pub known : all is_digit left ≡ true
+  pub known : list_all is_digit left ≡ true
   pub alike : (place : Place) → sets ≡ digit_sets place
-      → foldl (after_event place) tokens (codes_in left) ≡ foldl (after_event place) no_tokens (codes_in digits)
+      → fold (after_event place) tokens (codes_in left) ≡ fold (after_event place) no_tokens (codes_in digits)
 
 abbrev pub invariant-loop-pair : goal.invariant-loop-pair
 invariant-loop-pair l =

@@ -12,5 +12,5 @@ returns c =
     _
     c.args.word
     c.requires
-    (rw place at c.write_hex.ensures)
-    (rw place at c.write_hex-2.ensures)
+    (rw (c.from.ensures, place) at c.write_hex.ensures)
+    (rw (c.from-2.ensures, place) at c.write_hex-2.ensures)

@@ -10,30 +10,27 @@ use Rattle.places.specs.Sets.{size}
 use Rattle.candidate_order_spec.proofs.laws.Highest.{bit_value, added_fits}
 use Rattle.candidate_order_spec.proofs.laws.NextSet.{after_added, after_past}
 use Rattle.candidate_order_spec.proofs.laws.Succession.{candidate_bounds, after_by_lem, past_by_lem}
-use Rattle.candidate_order.proofs.HighestCodes.{logarithm_highest}
 use Rattle.candidate_order.proofs.set.set_after.Goals as goal
 use Rattle.candidate_order.proofs.set.set_after.Goals.{else-next-from-via-then-next-from+else-size_of-from, else-next-from-via-else-next-from}
 
-pub ilog2-next-requires : goal.ilog2-next-requires
-ilog2-next-requires c =
+pub highest-next-requires : goal.highest-next-requires
+highest-next-requires c =
     let a = c.args in
     (candidate_bounds a.activities a.most c.requires.0 a.set c.requires.1).some
 
 pub overflow_add-result : goal.overflow_add-result
 overflow_add-result c =
-    let log = c.ilog2-next in
-    let code = logarithm_highest log.ensures.bound log.ensures.power_le log.ensures.next_power_gt in
-    rw (bit_value (log.result + 1) (omega arith), add-one log.result) (omega (arith, added_fits log.result c.args.set code (omega arith)))
+    let next = c.highest-next in
+    rw (bit_value (next.result + 1) (omega arith), add-one next.result) (omega (arith, added_fits next.result c.args.set next.ensures (omega arith)))
 
 pub returns-then-size_of-from : goal.returns-then-size_of-from
 returns-then-size_of-from c =
     let a = c.args in
-    let log = c.ilog2-next in
-    let h = log.result in
-    let code = logarithm_highest log.ensures.bound log.ensures.power_le log.ensures.next_power_gt in
+    let next = c.highest-next in
+    let h = next.result in
     rw (bit_value (h + 1) (omega arith), add-one h)
     (sym (after_by_lem a.activities a.most c.requires.0 a.set c.requires.1
-    ∙ after_added h a.set code a.activities a.most (omega arith) (omega (arith, c.size_of.ensures))))
+    ∙ after_added h a.set next.ensures a.activities a.most (omega arith) (omega (arith, c.size_of.ensures))))
 
 pub set_past-requires : goal.set_past-requires
 set_past-requires c =
@@ -44,9 +41,8 @@ set_past-requires c =
 pub returns : goal.returns
 returns c =
     let a = c.args in
-    let log = c.ilog2-next in
-    let h = log.result in
-    let code = logarithm_highest log.ensures.bound log.ensures.power_le log.ensures.next_power_gt in
+    let next = c.highest-next in
+    let h = next.result in
     let full : (a.activities ≤ suc h) ⊎ (a.most ≤ size a.set) =
     elim c.else-next-from.branch [
       | else-next-from-via-then-next-from+else-size_of-from w ↦ inr (omega (arith, w.size_of.ensures))
@@ -54,5 +50,5 @@ returns c =
     ] in
     c.set_past.ensures a.most c.requires.1
     ∙ past_by_lem a.activities a.most c.requires.0 a.set c.requires.1
-    ∙ sym (after_past h a.set code a.activities a.most full)
+    ∙ sym (after_past h a.set next.ensures a.activities a.most full)
     ∙ sym (after_by_lem a.activities a.most c.requires.0 a.set c.requires.1)

@@ -8,7 +8,6 @@ use mathlib.Core.Path.{◌≡◌, sym}
 use Rattle.cover_choice.specs.Choosing.{Chosen}
 use Rattle.reduction_spec.proofs.laws.Parts.{part_le}
 use Rattle.reduction_spec.proofs.laws.Balance.{unbalanced}
-use Rattle.cover_choice.proofs.laws.HighestBit.{highest_bit}
 use Rattle.cover_choice.proofs.laws.Rarity.{twice_part, thrice_part, no_cover, single, double, some_word}
 use Rattle.cover_choice.proofs.Remainder.choose.Goals as goal
 
@@ -23,37 +22,37 @@ returns-then-tally-self c = no_cover c.tally-tally.ensures c.if-tally-self.true
 pub overflow_sub-self : goal.overflow_sub-self
 overflow_sub-self c = part_le _ _ (twice_part c.tally-tally.ensures)
 
-pub ilog2-requires : goal.ilog2-requires
-ilog2-requires c = apart _ _ (part_le _ _ (twice_part c.tally-tally.ensures)) c.if-tally-self-2.true
+pub highest-requires : goal.highest-requires
+highest-requires c = apart _ _ (part_le _ _ (twice_part c.tally-tally.ensures)) c.if-tally-self-2.true
 
 pub returns-then-tally-self-2 : goal.returns-then-tally-self-2
 unfolding Chosen
 returns-then-tally-self-2 c =
-    let highest = c.ilog2 in
+    let highest = c.highest in
     single
     c.tally-tally.ensures
     c.if-tally-self.false
     highest.result
-    highest.ensures.bound
-    (highest_bit _ _ highest.ensures.power_le highest.ensures.next_power_gt)
+    highest.ensures.known
+    highest.ensures.has
 
 pub overflow_sub-self-then-tally-self-3 : goal.overflow_sub-self-then-tally-self-3
 overflow_sub-self-then-tally-self-3 c = part_le _ _ (thrice_part c.tally-tally.ensures)
 
-pub ilog2-requires-then-tally-self-3 : goal.ilog2-requires-then-tally-self-3
-ilog2-requires-then-tally-self-3 c = apart _ _ (part_le _ _ (thrice_part c.tally-tally.ensures)) c.if-tally-self-3.true
+pub highest-requires-then-tally-self-3 : goal.highest-requires-then-tally-self-3
+highest-requires-then-tally-self-3 c = apart _ _ (part_le _ _ (thrice_part c.tally-tally.ensures)) c.if-tally-self-3.true
 
 pub returns-then-tally-self-3 : goal.returns-then-tally-self-3
 unfolding Chosen
 returns-then-tally-self-3 c =
-    let highest = c.ilog2-then-tally-self-3 in
+    let highest = c.highest-then-tally-self-3 in
     double
     c.tally-tally.ensures
     c.if-tally-self.false
     highest.result
-    highest.ensures.bound
+    highest.ensures.known
     c.if-tally-self-2.false
-    (highest_bit _ _ highest.ensures.power_le highest.ensures.next_power_gt)
+    highest.ensures.has
 
 pub returns-then-not-is_balanced : goal.returns-then-not-is_balanced
 unfolding Chosen

@@ -2,22 +2,14 @@
 -- the next part, one rich in inputs and one poor, are the two tests of the definition.
 -- Assumes nothing.
 use Prim.Native.Nat.{ℕ}
-use mathlib.Core.Path.{◌≡◌, refl, sym, ◌∙◌}
-use mathlib.Core.Bool.{Bool, ◌&&◌, ◌||◌}
-use mathlib.Core.List.{List}
+use mathlib.Core.Path.{sym, ◌∙◌}
+use mathlib.Core.Bool.{Bool, ◌&&◌}
 use borrow.Author.Tests.{tests}
 use Rattle.std.proofs.Common.{rules}
 use Rattle.std.proofs.lemmas.Iterator.{YieldsList-from_slice}
 use Rattle.std.proofs.lemmas.Iterator.Search.{any_from_yields_List}
-use Rattle.std.proofs.lemmas.List.Recursion.{same_from_clauses}
-use Rattle.std.specs.List.{list_any}
-use Rattle.foundation.specs.Lists.{any}
 use Rattle.reduction_spec.specs.Cover.{usable, many_inputs, few_inputs, balanced}
 use Rattle.cover_choice.proofs.Remainder.is_balanced.Goals as goal
-
--- the library's word for a test of some element, and this repository's
-any_listed : (p : ℕ → Bool) (xs : List ℕ) → list_any p xs ≡ any p xs
-any_listed p = same_from_clauses (list_any p) (any p) (λ x later. p x || later) refl (λ x xs. refl) (λ x xs. refl)
 
 pub returns-then-any : goal.returns-then-any
 unfolding balanced
@@ -27,7 +19,7 @@ returns-then-any c =
     let poor : ℕ → Bool = λ (w : ℕ). usable r.whole r.left w && few_inputs r.left w in
     let first = any_from_yields_List rich _ _ c.any.result c.any.ensures.ran (YieldsList-from_slice r.words.now cc) (λ x b q k. search (rules, tests)) in
     let second = any_from_yields_List poor _ _ c.any-then-any.result c.any-then-any.ensures.ran (YieldsList-from_slice r.words.now cc) (λ x b q k. search (rules, tests)) in
-    rw (sym (any_listed rich r.words.now) ∙ sym first ∙ c.if-any.true) (second ∙ any_listed poor r.words.now)
+    rw (sym first ∙ c.if-any.true) second
 
 pub returns-else-any : goal.returns-else-any
 unfolding balanced
@@ -35,4 +27,4 @@ returns-else-any c =
     let r = c.args.self in
     let rich : ℕ → Bool = λ (w : ℕ). usable r.whole r.left w && many_inputs r.left w in
     let first = any_from_yields_List rich _ _ c.any.result c.any.ensures.ran (YieldsList-from_slice r.words.now cc) (λ x b q k. search (rules, tests)) in
-    rw (sym (any_listed rich r.words.now) ∙ sym first ∙ c.if-any.false) c.if-any.false
+    rw (sym first ∙ c.if-any.false) c.if-any.false

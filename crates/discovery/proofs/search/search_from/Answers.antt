@@ -1,8 +1,7 @@
 -- `discovery::search::search_from` meets its contract: a turn takes the candidates of one output
 -- set; one that stops the run, or the last one, makes the whole run.
 -- Assumes nothing.
-use Rattle.std.proofs.Common.{◌≡◌, true, Err, rules}
-use native.Mathlib.Omega.{arith}
+use Rattle.std.proofs.Common.{◌≡◌, Err, rules}
 use mathlib.Core.Logic.{inr}
 use Rattle.limits.specs.declared.Settings.{Settings}
 use Rattle.discovery.specs.Searching.{Searchable}
@@ -24,11 +23,6 @@ pub search_inputs-requires : goal.search_inputs-requires
 search_inputs-requires c =
     let at = c.loop-outputs.invariant in
     record { settings = c.requires.settings; inputs = at.inputs; countable = row_countable (ranges _ c.requires.settings) at c.loop-outputs-test.true }
-
-pub set_after-outputs-requires : goal.set_after-outputs-requires
-set_after-outputs-requires c =
-    let known = ranges _ c.requires.settings in
-    (known.few, this_row known c.loop-outputs.invariant c.loop-outputs-test.true)
 
 pub returns-in_err-search_inputs-clause-carried : goal.returns-in_err-search_inputs-clause-carried
 unfolding candidates_from

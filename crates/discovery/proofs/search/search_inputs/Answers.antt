@@ -5,9 +5,6 @@ use Rattle.std.proofs.Common.{◌≡◌, Err, rules}
 use Rattle.discovery.proofs.laws.InputsLeft.{inputs_start, inputs_done, this_set, one_more, fewer_left, inputs_stop, inputs_on}
 use Rattle.discovery.proofs.search.search_inputs.Goals as goal
 
-pub loop-inputs-init : goal.loop-inputs-init
-loop-inputs-init c = inputs_start _ _ _ _ _ _ _ c.requires.inputs c.requires.countable
-
 pub visit-requires : goal.visit-requires
 visit-requires c = one_more c.requires.settings.few_activities c.loop-inputs.invariant c.loop-inputs-test.true
 
@@ -16,11 +13,6 @@ returns-in_err-descendants c =
     let few = c.requires.settings.few_activities in
     let same : c.from_residual.result ≡ Err c.in_err-descendants.field-0.0 = search rules in
     rw same (inputs_stop few c.loop-inputs.invariant c.loop-inputs-test.true c.in_err-descendants.ensures)
-
-pub next_inputs-inputs-requires : goal.next_inputs-inputs-requires
-next_inputs-inputs-requires c =
-    let few = c.requires.settings.few_activities in
-    (few, this_set few c.loop-inputs.invariant c.loop-inputs-test.true)
 
 pub loop-inputs-smaller : goal.loop-inputs-smaller
 loop-inputs-smaller c =

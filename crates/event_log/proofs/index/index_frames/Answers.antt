@@ -1,5 +1,5 @@
--- `event_log::index::index_frames` meets its contract: each turn stores the word of the frame at the
--- index, and when no byte is left all words are stored.
+-- `event_log::index::index_frames` meets its contract: each turn stores the entry of the frame at the
+-- index, and when no byte is left all entries are stored.
 -- Assumes nothing.
 use Rattle.std.proofs.Common.{sym, ◌∙◌, arith}
 use Rattle.event_log.proofs.laws.FrameIndex.{some_left, none_left, none_stored, one_stored, all_stored}
@@ -13,7 +13,7 @@ bounds-index-count c = omega (arith, some_left _ _ c.loop-at.invariant.frames c.
 
 pub loop-at-preserved : goal.loop-at-preserved
 loop-at-preserved c =
-    rw (c.index_word.ensures, c.trace_end-end.ensures)
+    rw c.trace_end-end.ensures
     (one_stored _ _ c.requires.0 _ _ _ c.loop-at.invariant _ c.loop-at-test.true (omega arith) (sym c.count_at.ensures.answer ∙ c.unwrap-cases.ensures))
 
 pub returns : goal.returns

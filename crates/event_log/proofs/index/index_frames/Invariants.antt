@@ -1,5 +1,5 @@
--- The words of the frames before the index stand in front of the buffer. The measure is what is left
--- of the text.
+-- The entries of the frames before the index stand in front of the buffer. The measure is what is
+-- left of the text.
 -- Assumes nothing.
 use Prim.Native.Nat.{◌-◌}
 use lib.ListN.{length}

@@ -73,7 +73,7 @@ is_covered_after-returns-then-left-eq0 t c = says_yes (leaves_nothing c.if-left-
 
 pub is_covered_after-returns-then-not-is_through : goal.is_covered_after-returns-then-not-is_through
 is_covered_after-returns-then-not-is_through t c =
-    says_no (one_kind_left _ c.args.self.places c.if-left-eq0.false (sym c.if-not-is_through.ensures))
+    says_no (one_kind_left _ c.args.self.places c.if-left-eq0.false (rw c.from.ensures at (sym c.if-not-is_through.ensures)))
 
 pub is_covered_after-has_cover-requires : goal.is_covered_after-has_cover-requires
 is_covered_after-has_cover-requires t c = (omega (arith, c.decreases, usable_fewer _ _ _ c.requires.some c.requires.next), tt)

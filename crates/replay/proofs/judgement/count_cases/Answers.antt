@@ -8,7 +8,7 @@ use mathlib.Core.Path.{sym, ◌∙◌}
 use lib.ListN.{length}
 use Rattle.event_log_spec.specs.Lines.{frames_of}
 use Rattle.event_log.specs.FrameIndex.{frame_at, frames_between}
-use Rattle.event_log.proofs.laws.IndexedFrames.{frame_found}
+use Rattle.event_log.proofs.laws.IndexedFrames.{frame_under}
 use Rattle.event_log.proofs.laws.FrameRanges.{frames_none, frames_more}
 use Rattle.replay_spec.specs.Judgement.{case_counts}
 use Rattle.replay.proofs.laws.FrameByFrame.{count_part, counts_none, counts_more}
@@ -20,20 +20,19 @@ loop-frame-init c = (omega arith, rw (frames_none c.args.log.now.text.now c.args
 
 pub replay_trace-tokens-requires : goal.replay_trace-tokens-requires
 replay_trace-tokens-requires c =
-    let found = frame_found c.args.log.now.indexed c.loop-frame.frame (omega arith) in
-    let digits = frame_digits _ found.under in
+    let digits = frame_digits _ (frame_under c.args.log.now.indexed.log c.loop-frame.frame (omega arith)) in
     rw c.digits.ensures (digits.short, digits.all_digits)
 
 pub add_cases-requires : goal.add_cases-requires
 add_cases-requires c =
     let log = c.args.log.now in
-    let found = frame_found log.indexed c.loop-frame.frame (omega arith) in
+    let under = frame_under log.indexed.log c.loop-frame.frame (omega arith) in
     let so_far = case_counts c.args.place (frames_between c.args.from c.loop-frame.frame log.text.now) in
     rw (c.cases.ensures, c.loop-frame.invariant.1)
     (omega (
       arith,
       count_part so_far c.replay_trace-tokens.result,
-      cases_fit c.args.place log.indexed.log c.args.from c.loop-frame.frame _ found.under,
+      cases_fit c.args.place log.indexed.log c.args.from c.loop-frame.frame _ under,
     ))
 
 pub loop-frame-preserved : goal.loop-frame-preserved
@@ -42,13 +41,13 @@ loop-frame-preserved c =
     let text = log.text.now in
     let frame = c.loop-frame.frame in
     let less : frame < length (frames_of text) = omega arith in
-    let found = frame_found log.indexed frame less in (
+    let under = frame_under log.indexed.log frame less in (
       omega arith,
       c.add_cases.ensures
           ∙ rw (
             c.replay_trace-tokens.ensures c.args.place c.from-sets.ensures,
             c.digits.ensures,
-            (frame_digits _ found.under).trace,
+            (frame_digits _ under).trace,
             c.cases.ensures,
             c.loop-frame.invariant.1,
             frames_more text c.args.from frame c.loop-frame.auto.frame less,
