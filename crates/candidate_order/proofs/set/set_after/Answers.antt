@@ -7,7 +7,7 @@ use native.Mathlib.Numerals.{add-one}
 use mathlib.Core.Path.{sym, ◌∙◌}
 use mathlib.Core.Logic.{◌⊎◌, inl, inr}
 use Rattle.places.specs.Sets.{size}
-use Rattle.candidate_order_spec.proofs.laws.Highest.{bit_value, added_fits}
+use Rattle.candidate_order_spec.proofs.laws.Highest.{bit_value}
 use Rattle.candidate_order_spec.proofs.laws.NextSet.{after_added, after_past}
 use Rattle.candidate_order_spec.proofs.laws.Succession.{candidate_bounds, after_by_lem, past_by_lem}
 use Rattle.candidate_order.proofs.set.set_after.Goals as goal
@@ -17,11 +17,6 @@ pub highest-next-requires : goal.highest-next-requires
 highest-next-requires c =
     let a = c.args in
     (candidate_bounds a.activities a.most c.requires.0 a.set c.requires.1).some
-
-pub overflow_add-result : goal.overflow_add-result
-overflow_add-result c =
-    let next = c.highest-next in
-    rw (bit_value (next.result + 1) (omega arith), add-one next.result) (omega (arith, added_fits next.result c.args.set next.ensures (omega arith)))
 
 pub returns-then-size_of-from : goal.returns-then-size_of-from
 returns-then-size_of-from c =

@@ -1,18 +1,12 @@
 -- `candidate_order::set::set_past` meets its contract: each return is what the law of the set past
 -- a given one says of its highest code.
 -- Assumes nothing.
-use native.Mathlib.Nat.{pow-suc}
 use native.Mathlib.Omega.{arith}
 use mathlib.Core.Path.{sym, ◌∙◌}
-use Rattle.candidate_order_spec.proofs.laws.Highest.{bit_value, added_fits}
+use Rattle.candidate_order_spec.proofs.laws.Highest.{bit_value}
 use Rattle.candidate_order_spec.proofs.laws.NextSet.{past_moved, past_none, past_fallen}
 use Rattle.candidate_order_spec.proofs.laws.Succession.{past_by_lem}
 use Rattle.candidate_order.proofs.set.set_past.Goals as goal
-
-pub overflow_add-result : goal.overflow_add-result
-overflow_add-result c =
-    let code = c.highest-code in
-    omega (arith, bit_value code.result (omega arith), pow-suc 2 code.result, added_fits code.result c.args.set code.ensures (omega arith))
 
 pub returns-then-code-from : goal.returns-then-code-from
 returns-then-code-from c = λ most candidate.
