@@ -17,9 +17,10 @@ settings_frame_in input = cond (settings_malformed input) None (Some (settings_i
 unfoldable pub run_line : Run → List ℕ
 run_line x = write_hex end_digits (end_number x.end) ++ write_hex value_digits x.replays ++ write_hex value_digits x.visits ++ (line_feed ∷ [])
 
--- numbers, each in so many digits and behind the one before, and a line feed
+-- a field: a number, and in how many digits it is written
 abbrev pub field_text : ℕ × ℕ → List ℕ
 field_text field = write_hex field.1 field.0
 
+-- a line of fields, each behind the one before, and its line feed
 unfoldable pub fields_line : List (ℕ × ℕ) → List ℕ
 fields_line fields = flat_map field_text fields ++ (line_feed ∷ [])
