@@ -11,10 +11,10 @@
  *   put a token in, and a set of outputs, which each take one out.
  *
  * The log
- *   Text, a frame for each line: four digits of how many cases went this way (0001 to FFFF), two
- *   digits for each activity, a line feed. Digits are 0-9 and A-F. A frame has 2 to 254 activities,
- *   starts with 00, ends with 01 and has neither in between. A log has 1 to 4,096 frames. Lines
- *   count from 0.
+ *   Text, a frame for each line: eight digits of how many cases went this way (00000001 to
+ *   FFFFFFFF), two digits for each activity, a line feed. Digits are 0-9 and A-F. A frame has 2 to
+ *   254 activities, starts with 00, ends with 01 and has neither in between. A log has 1 to 4,096
+ *   frames, and so at most 17,592,186,040,320 cases, a number of 64 bits. Lines count from 0.
  *
  * Answers
  *   Every call but placelist_version returns the number of its refusal, an enum placelist_refusal:
@@ -69,7 +69,7 @@ extern "C" {
  * The version of this header. The major part is raised where a format or the arguments of a call
  * change, and is the number in the name of the shared object; the minor where something is added.
  */
-#define PLACELIST_VERSION_MAJOR 1
+#define PLACELIST_VERSION_MAJOR 2
 #define PLACELIST_VERSION_MINOR 0
 #define PLACELIST_VERSION_PATCH 0
 #define PLACELIST_VERSION \
@@ -83,8 +83,8 @@ extern "C" {
 
 #define PLACELIST_MOST_FRAMES 4096 /* frames of a log */
 #define PLACELIST_MOST_FRAME_ACTIVITIES 254 /* activities of a frame */
-#define PLACELIST_MOST_FRAME_BYTES 513 /* bytes of the longest frame: 4 + 2 * 254 + 1 */
-#define PLACELIST_MOST_LOG_BYTES 2101248 /* bytes of the longest log: 4,096 * 513 */
+#define PLACELIST_MOST_FRAME_BYTES 517 /* bytes of the longest frame: 8 + 2 * 254 + 1 */
+#define PLACELIST_MOST_LOG_BYTES 2117632 /* bytes of the longest log: 4,096 * 517 */
 
 #define PLACELIST_LINE_BYTES 9 /* bytes of a place in a written list */
 
@@ -106,8 +106,8 @@ extern "C" {
  *   0                  the call is not refused. Value: 0
  *   1 [setting]        activities, most_inputs, most_outputs or threshold is out of its range: 2 to
  *                      16; 1 to activities; 1 to activities; 0 to 1000. Value: 0
- *   2 [broken frame]   a line has no line feed, an odd number of digits or fewer than 8, a byte that
- *                      is no digit, or a case count of 0000. Value: the line
+ *   2 [broken frame]   a line has no line feed, an odd number of digits or fewer than 12, a byte
+ *                      that is no digit, or a case count of 00000000. Value: the line
  *   3 [stranger]       an activity code is the bound or more. Value: the line
  *   4 [loose ends]     the first activity is not 00, the last is not 01, or 00 or 01 stands in
  *                      between. Value: the line
@@ -262,8 +262,8 @@ uint32_t placelist_version(void);
  *   activities       the activity bound [A]: codes run from 0 to activities - 1
  *   text, text_len   the log, and its bytes
  *   value            see the list of refusals
- *   counts           counts[0]: the frames of the log; counts[1]: its cases [N], the sum of all case
- *                    counts
+ *   counts           counts[0]: the frames of the log, at most 4,096; counts[1]: its cases [N], the
+ *                    sum of all case counts, at most 17,592,186,040,320
  *
  * Refusals, in order: 1 (activities), 6, then of the first faulty line 5, 2, 3 or 4.
  */
@@ -297,7 +297,8 @@ uint8_t placelist_replay(uint8_t activities, const uint8_t *text, size_t text_le
  *   text, text_len   the log, and its bytes
  *   inputs, outputs  the place, a set each
  *   value            see the list of refusals
- *   counts           the cases that fit, that are underfed only, overfed only, and both
+ *   counts           the cases that fit, that are underfed only, overfed only, and both: each is at
+ *                    most 17,592,186,040,320, as their sum is
  *   verdict          an enum placelist_verdict
  *
  * Refusals, in order: 1 (activities, threshold), 7 (value 0), 6, then of the first faulty line 5, 2, 3

@@ -3,11 +3,13 @@
 mod damage;
 mod lists;
 mod logs;
+mod padding;
 mod random;
 
 pub use damage::{each_changed_byte, faulty_lines, faulty_logs};
 pub use lists::{random_list, random_valid_list};
-pub use logs::{log_of_bytes, long_log, process_log, random_log, text_of, LogShape};
+pub use logs::{halved_log, log_of_bytes, long_log, process_log, random_log, text_of, LogShape};
+pub use padding::{padded_input, padded_log};
 pub use random::Random;
 
 use crate::model::{Place, Settings};
@@ -43,6 +45,17 @@ pub fn random_settings(random: &mut Random, most_candidates: u64) -> Settings {
             return settings;
         }
     }
+}
+
+/// The first line of the program's input.
+pub fn settings_line(settings: Settings) -> Vec<u8> {
+    let Settings {
+        activities,
+        inputs,
+        outputs,
+        threshold,
+    } = settings;
+    format!("{activities:02X}{inputs:02X}{outputs:02X}{threshold:04X}\n").into_bytes()
 }
 
 /// A threshold, often 0 and often small.

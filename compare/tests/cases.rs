@@ -5,10 +5,11 @@ use compare::model::{
     Verdict,
 };
 
-const ONE_TRACE: &[u8] = b"0001000203040501\n";
-const UNEVEN_TRACE: &[u8] = b"000100040202030301\n";
-const FOUR_TRACES: &[u8] = b"001F0002030401\n001B0003020401\n00170002030501\n00130003020501\n";
-const ONE_STEP: &[u8] = b"0001000201\n";
+const ONE_TRACE: &[u8] = b"00000001000203040501\n";
+const UNEVEN_TRACE: &[u8] = b"0000000100040202030301\n";
+const FOUR_TRACES: &[u8] =
+    b"0000001F0002030401\n0000001B0003020401\n000000170002030501\n000000130003020501\n";
+const ONE_STEP: &[u8] = b"00000001000201\n";
 const ONE_STEP_SETTINGS: Settings = Settings {
     activities: 3,
     inputs: 2,
@@ -72,9 +73,9 @@ fn m8_to_m10_refusals() {
     let number = |activities, text: &[u8]| check(activities, text).unwrap_err().number();
     assert_eq!(number(6, b""), 6);
     assert_eq!(number(6, b"\n"), 2);
-    assert_eq!(number(6, b"00000001\n"), 2);
-    assert_eq!(number(2, b"0001000201\n"), 3);
-    assert_eq!(number(6, b"00010100\n"), 4);
+    assert_eq!(number(6, b"000000000001\n"), 2);
+    assert_eq!(number(2, b"00000001000201\n"), 3);
+    assert_eq!(number(6, b"000000010100\n"), 4);
 }
 
 #[test]
@@ -117,7 +118,7 @@ fn m12_reduction() {
 
 #[test]
 fn program() {
-    let output = program_text(b"0303010000\n00010001\n");
+    let output = program_text(b"0303010000\n000000010001\n");
     let expected: &[u8] = b"00010002\n00050002\n00040004\n000000000C0000000F\n";
     assert_eq!(output, expected);
 }

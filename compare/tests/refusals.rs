@@ -4,7 +4,7 @@ use compare::model::{
     check, judge, program_text, reduce, replay, search, write, Place, Refusal, Settings,
 };
 
-const LOG: &[u8] = b"0001000201\n";
+const LOG: &[u8] = b"00000001000201\n";
 const PLACE: Place = Place {
     inputs: 1,
     outputs: 2,
@@ -29,7 +29,7 @@ fn refused(activities: u8, text: &[u8]) -> Refusal {
 
 /// A line of so many activities.
 fn line(events: usize) -> String {
-    format!("000100{}01\n", "02".repeat(events - 2))
+    format!("0000000100{}01\n", "02".repeat(events - 2))
 }
 
 #[test]
@@ -80,23 +80,27 @@ fn invalid_words_come_before_a_short_buffer() {
 #[test]
 fn frames_are_malformed() {
     for text in [
-        "0001000",
-        "0001000201",
-        "000100201\n",
-        "00010\n",
-        "000100\n",
-        "00010002a1\n",
-        "00010002G1\n",
-        "0001 00201\n",
-        "0000000201\n",
-        "0000010201\n",
-        "00000099\n",
-        "0001000201\r\n",
+        "00000001000",
+        "00000001000201",
+        "0000000100201\n",
+        "0000000100010\n",
+        "00000001000\n",
+        "0000000100\n",
+        "000000010\n",
+        "00000001\n",
+        "000000010002a1\n",
+        "000000010002G1\n",
+        "00000001 00201\n",
+        "00000000000201\n",
+        "00000000010201\n",
+        "000000000099\n",
+        "00000001000201\r\n",
     ] {
         let answer = refused(3, text.as_bytes());
         assert_eq!(answer, Refusal::MalformedFrame { line: 0 }, "{text:?}");
     }
-    let second = refused(3, b"0001000201\n0001000201");
+    assert!(check(3, b"000000010001\n").is_ok());
+    let second = refused(3, b"00000001000201\n00000001000201");
     assert_eq!(second, Refusal::MalformedFrame { line: 1 });
 }
 
@@ -104,14 +108,14 @@ fn frames_are_malformed() {
 fn codes_are_unknown_before_misplaced() {
     let unknown = Refusal::UnknownActivity { line: 0 };
     let misplaced = Refusal::MisplacedEndpoint { line: 0 };
-    assert_eq!(refused(3, b"0001010300\n"), unknown);
-    assert_eq!(refused(3, b"0001FF01\n"), unknown);
+    assert_eq!(refused(3, b"00000001010300\n"), unknown);
+    assert_eq!(refused(3, b"00000001FF01\n"), unknown);
     for text in [
-        "00010202\n",
-        "00010002\n",
-        "0001000001\n",
-        "0001000101\n",
-        "00010201\n",
+        "000000010202\n",
+        "000000010002\n",
+        "00000001000001\n",
+        "00000001000101\n",
+        "000000010201\n",
     ] {
         assert_eq!(refused(3, text.as_bytes()), misplaced, "{text:?}");
     }
@@ -127,7 +131,7 @@ fn lines_and_logs_are_limited() {
     assert_eq!(refused(2, cut), Refusal::MalformedFrame { line: 0 });
     let most = line(2).repeat(4096);
     assert_eq!(check(2, most.as_bytes()).unwrap().frames, 4096);
-    for rest in ["0", "\n", "00010001\n"] {
+    for rest in ["0", "\n", "000000010001\n"] {
         let text = most.clone() + rest;
         assert_eq!(
             refused(2, text.as_bytes()),
@@ -147,7 +151,7 @@ fn program_refuses_in_order() {
     assert_eq!(refusal(b"03030103E9\n"), "FF0100000000\n");
     assert_eq!(refusal(b"0303010000\n"), "FF0600000000\n");
     assert_eq!(
-        refusal(b"0303010000\n00010001\n00010301\n"),
+        refusal(b"0303010000\n000000010001\n000000010301\n"),
         "FF0300000001\n"
     );
 }

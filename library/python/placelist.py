@@ -6,11 +6,11 @@ places that the log fits, reduces a list of places and writes it. Every call of 
 proved to answer what its written scope says; this module hands arguments and answers over.
 
 An activity is a code from 0 to 15: 0 is the start of a case, 1 its end. A set is a number of 16
-bits, with the bit `1 << code` for each activity. A log is bytes, a frame for each line: four
+bits, with the bit `1 << code` for each activity. A log is bytes, a frame for each line: eight
 hexadecimal digits of how many cases went this way, two for each activity, a line feed. Lines count
 from 0.
 
->>> log = b"0001000201\\n"  # one case: 0, 2, 1
+>>> log = b"00000001000201\\n"  # one case: 0, 2, 1
 >>> check(3, log)
 LogSize(frames=1, cases=1)
 >>> run = search(Settings(activities=3, inputs=2, outputs=2, threshold=0), log)
@@ -71,8 +71,8 @@ MOST_THRESHOLD = 1000  # the largest threshold, in thousandths
 
 MOST_FRAMES = 4096  # frames of a log
 MOST_FRAME_ACTIVITIES = 254  # activities of a frame
-MOST_FRAME_BYTES = 513  # bytes of the longest frame: 4 + 2 * 254 + 1
-MOST_LOG_BYTES = 2101248  # bytes of the longest log: 4,096 * 513
+MOST_FRAME_BYTES = 517  # bytes of the longest frame: 8 + 2 * 254 + 1
+MOST_LOG_BYTES = 2117632  # bytes of the longest log: 4,096 * 517
 
 LINE_BYTES = 9  # bytes of a place in a written list
 
@@ -229,8 +229,8 @@ class Place(NamedTuple):
 class LogSize(NamedTuple):
     """The size of a log."""
 
-    frames: int
-    cases: int  # the sum of all case counts
+    frames: int  # at most 4,096
+    cases: int  # the sum of all case counts, at most 17,592,186,040,320
 
 
 class Balances(NamedTuple):
@@ -245,7 +245,9 @@ class Balances(NamedTuple):
 
 
 class Judgement(NamedTuple):
-    """Four numbers of cases, which add up to all cases of the log, and the verdict."""
+    """Four numbers of cases, which add up to all cases of the log, at most 17,592,186,040,320, and
+    the verdict.
+    """
 
     fitting: int
     underfed: int  # only underfed
@@ -274,8 +276,8 @@ class Run(NamedTuple):
 class Version(NamedTuple):
     """The version of the library: of its calls, and of the formats that they read and write.
 
-    >>> str(Version(1, 0, 0))
-    '1.0.0'
+    >>> str(Version(2, 0, 0))
+    '2.0.0'
     """
 
     major: int
@@ -290,7 +292,7 @@ Log = Union[bytes, bytearray, memoryview]
 
 # ---- The shared object ----
 
-_MAJOR = 1
+_MAJOR = 2
 _SONAME = f"libplacelist.so.{_MAJOR}"
 
 _BYTES = POINTER(c_uint8)
@@ -448,7 +450,7 @@ def replay(activities: int, log: Log, place: Place) -> Balances:
 
     Refusals, in order: 1, 7, 6, then of the first faulty line 5, 2, 3 or 4.
 
-    >>> replay(6, b"000100040202030301\\n", Place(0x0004, 0x0030))
+    >>> replay(6, b"0000000100040202030301\\n", Place(0x0004, 0x0030))
     Balances(least=-1, last=1)
     """
     text = _bytes(log)
@@ -554,7 +556,7 @@ def report(input: Log) -> bytes:
     replays and eight of visits. There is no refusal: an input that the program refuses is answered
     by one line of FF, two digits of the number and eight of the value.
 
-    >>> report(b"0303010000\\n00010001\\n")
+    >>> report(b"0303010000\\n000000010001\\n")
     b'00010002\\n00050002\\n00040004\\n000000000C0000000F\\n'
     """
     text = _bytes(input)

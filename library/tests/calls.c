@@ -1,7 +1,8 @@
 /*
  * Every call of the header once, on worked cases of document 01: that the header declares what the
- * library has. Then null pointers for buffers of length 0, the version and the words of the refusals.
- * C99 and C++. Says which line failed; the exit status is 0 only if none did.
+ * library has. Then large case counts, frames about as short and as long as they can be, the case
+ * counts of version 1, null pointers for buffers of length 0, the version and the words of the
+ * refusals. C99 and C++. Says which line failed; the exit status is 0 only if none did.
  */
 #include <stdio.h>
 #include <string.h>
@@ -20,7 +21,7 @@ static void expect(int line, int holds)
 
 #define EXPECT(holds) expect(__LINE__, holds)
 
-static const uint8_t short_log[] = "0001000201\n"; /* M6 and M11 */
+static const uint8_t short_log[] = "00000001000201\n"; /* M6 and M11 */
 #define SHORT_LENGTH (sizeof short_log - 1)
 
 static void check_and_replay(void)
@@ -43,7 +44,8 @@ static void check_and_replay(void)
 /* M7 */
 static void judge(void)
 {
-    static const uint8_t log[] = "001F0002030401\n001B0003020401\n00170002030501\n00130003020501\n";
+    static const uint8_t log[] = "0000001F0002030401\n0000001B0003020401\n"
+                                 "000000170002030501\n000000130003020501\n";
     uint64_t value = 99, counts[PLACELIST_CASES_LENGTH] = { 99, 99, 99, 99 };
     uint8_t verdict = 99;
     EXPECT(placelist_judge(6, 419, log, sizeof log - 1, 0x0001, 0x0010, &value, counts, &verdict)
@@ -94,7 +96,7 @@ static void search_reduce_and_write(void)
 /* the case of the program placelist */
 static void report(void)
 {
-    static const uint8_t input[] = "0303010000\n00010001\n";
+    static const uint8_t input[] = "0303010000\n000000010001\n";
     static const char expected[] = "00010002\n00050002\n00040004\n000000000C0000000F\n";
     static uint8_t output[PLACELIST_MOST_OUTPUT];
     uint64_t value = 99, count = 99;
@@ -105,6 +107,104 @@ static void report(void)
            == PLACELIST_NOT_REFUSED);
     EXPECT(value == 0 && count == sizeof expected - 1);
     EXPECT(memcmp(output, expected, sizeof expected - 1) == 0);
+}
+
+/*
+ * That a log of cases 0, 2, 1 and of cases 0, 1 has so many of each. The first fit the place
+ * 0001/0004, the second overfeed it. The threshold is the least at which it is not overfed.
+ */
+static void expect_cases(int line, const char *log, uint64_t first, uint64_t second,
+                         uint16_t threshold)
+{
+    const uint8_t *text = (const uint8_t *)log;
+    size_t length = strlen(log);
+    uint64_t value = 99, size[PLACELIST_SIZE_LENGTH], counts[PLACELIST_CASES_LENGTH];
+    uint8_t below, at;
+    uint16_t lower = (uint16_t)(threshold - 1);
+    expect(line, placelist_check(3, text, length, &value, size) == PLACELIST_NOT_REFUSED);
+    expect(line, value == 0 && size[PLACELIST_SIZE_CASES] == first + second);
+    expect(line, placelist_judge(3, lower, text, length, 1, 4, &value, counts, &below)
+                     == PLACELIST_NOT_REFUSED);
+    expect(line, placelist_judge(3, threshold, text, length, 1, 4, &value, counts, &at)
+                     == PLACELIST_NOT_REFUSED);
+    expect(line, below == PLACELIST_OVERFED && at == PLACELIST_FITTING);
+    expect(line, counts[PLACELIST_CASES_FITTING] == first && counts[PLACELIST_CASES_UNDERFED] == 0);
+    expect(line, counts[PLACELIST_CASES_OVERFED] == second && counts[PLACELIST_CASES_BOTH] == 0);
+}
+
+/* case counts of more than 16 bits, and numbers of cases of more than 32 */
+static void large_case_counts(void)
+{
+    static const char most[] = "FFFFFFFF000201\nFFFFFFFF000201\nFFFFFFFF0001\nFFFFFFFF0001\n";
+    expect_cases(__LINE__, "0000FFFF000201\n000100000001\n", 65535, 65536, 501);
+    expect_cases(__LINE__, "FFFFFFFF000201\nFFFFFFFF0001\n", UINT32_MAX, UINT32_MAX, 500);
+    expect_cases(__LINE__, most, 2 * (uint64_t)UINT32_MAX, 2 * (uint64_t)UINT32_MAX, 500);
+    /* of 2^32 - 1 cases one decides */
+    expect_cases(__LINE__, "80000000000201\n7FFFFFFF0001\n", 0x80000000, 0x7FFFFFFF, 500);
+    expect_cases(__LINE__, "7FFFFFFF000201\n800000000001\n", 0x7FFFFFFF, 0x80000000, 501);
+}
+
+/* That line 0 of a log is refused so. */
+static void expect_refused(int line, uint8_t activities, const char *log, uint8_t number)
+{
+    uint64_t value = 99, counts[PLACELIST_SIZE_LENGTH] = { 99, 99 };
+    expect(line, placelist_check(activities, (const uint8_t *)log, strlen(log), &value, counts)
+                     == number);
+    expect(line, value == 0 && counts[0] == 99 && counts[1] == 99);
+}
+
+/* around the shortest frame, which has 12 digits */
+static void short_frames(void)
+{
+    static const uint8_t shortest[] = "000000010001\n";
+    uint64_t value = 99, counts[PLACELIST_SIZE_LENGTH];
+    EXPECT(placelist_check(3, shortest, sizeof shortest - 1, &value, counts)
+           == PLACELIST_NOT_REFUSED);
+    EXPECT(value == 0 && counts[PLACELIST_SIZE_FRAMES] == 1 && counts[PLACELIST_SIZE_CASES] == 1);
+    expect_refused(__LINE__, 3, "0000000100\n", PLACELIST_MALFORMED_FRAME);
+    expect_refused(__LINE__, 3, "00000001000\n", PLACELIST_MALFORMED_FRAME);
+    expect_refused(__LINE__, 3, "0000000100010\n", PLACELIST_MALFORMED_FRAME);
+    expect_refused(__LINE__, 3, "000000000001\n", PLACELIST_MALFORMED_FRAME);
+}
+
+/* A frame of so many activities, 2 or more, with the largest case count; answers its bytes. */
+static size_t fill_frame(uint8_t *text, int activities)
+{
+    uint8_t *at = text;
+    memcpy(at, "FFFFFFFF00", 10);
+    at += 10;
+    for (int k = 0; k < activities - 2; k++) {
+        memcpy(at, "02", 2);
+        at += 2;
+    }
+    memcpy(at, "01\n", 3);
+    return (size_t)(at + 3 - text);
+}
+
+/* around the longest frame */
+static void long_frames(void)
+{
+    static uint8_t text[PLACELIST_MOST_FRAME_BYTES + 2];
+    uint64_t value = 99, counts[PLACELIST_SIZE_LENGTH] = { 99, 99 };
+    EXPECT(fill_frame(text, PLACELIST_MOST_FRAME_ACTIVITIES + 1) == sizeof text);
+    EXPECT(placelist_check(3, text, sizeof text, &value, counts) == PLACELIST_TOO_LARGE);
+    EXPECT(value == 0 && counts[0] == 99 && counts[1] == 99);
+    size_t length = fill_frame(text, PLACELIST_MOST_FRAME_ACTIVITIES);
+    EXPECT(length == PLACELIST_MOST_FRAME_BYTES);
+    EXPECT(placelist_check(3, text, length, &value, counts) == PLACELIST_NOT_REFUSED);
+    EXPECT(counts[PLACELIST_SIZE_FRAMES] == 1 && counts[PLACELIST_SIZE_CASES] == UINT32_MAX);
+}
+
+/*
+ * Case counts of four digits, as version 1 read them: a frame of two or three activities is too
+ * short, and a longer one does not begin with 00.
+ */
+static void four_digit_case_counts(void)
+{
+    expect_refused(__LINE__, 3, "00010001\n", PLACELIST_MALFORMED_FRAME);
+    expect_refused(__LINE__, 3, "0001000201\n0001000201\n", PLACELIST_MALFORMED_FRAME);
+    expect_refused(__LINE__, 4, "000100020301\n", PLACELIST_MISPLACED_ENDPOINT);
+    expect_refused(__LINE__, 6, "0001000203040501\n", PLACELIST_MISPLACED_ENDPOINT);
 }
 
 /* a null pointer for every buffer of length 0 */
@@ -162,6 +262,10 @@ int main(void)
     judge();
     search_reduce_and_write();
     report();
+    large_case_counts();
+    short_frames();
+    long_frames();
+    four_digit_case_counts();
     null_logs();
     null_lists();
     version_and_words();

@@ -86,8 +86,8 @@ static void fill_log(void)
 {
     uint8_t *at = text;
     for (int frame = 0; frame < PLACELIST_MOST_FRAMES; frame++) {
-        memcpy(at, "FFFF00", 6);
-        at += 6;
+        memcpy(at, "FFFFFFFF00", 10);
+        at += 10;
         for (int k = 0; k < PLACELIST_MOST_FRAME_ACTIVITIES - 2; k++) {
             *at++ = '0';
             *at++ = (uint8_t)"23456789ABCDEF"[(frame + 5 * k) % 14];

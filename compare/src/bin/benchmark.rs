@@ -7,7 +7,7 @@
 use compare::generate::{
     count_candidates, process_log, random_valid_list, text_of, LogShape, Random,
 };
-use compare::model::{self, Place, Settings, PLACE_BYTES};
+use compare::model::{self, Place, Settings, COUNT_DIGITS, PLACE_BYTES};
 use compare::table::{Speed, Table};
 use compare::timing::{measure, Effort, Times};
 use std::hint::black_box;
@@ -28,13 +28,14 @@ fn sample(activities: u8, frames: usize) -> Sample {
         frames,
         noise: 10,
         repeats: 0,
+        most_cases: 0xFFFF,
     };
     let log = process_log(&mut Random::new(17), shape);
     Sample {
         activities,
         frames,
         events: log.iter().map(|frame| frame.trace.len()).sum(),
-        text: text_of(&log),
+        text: text_of(COUNT_DIGITS, &log),
     }
 }
 
@@ -227,7 +228,7 @@ fn all_places(activities: u8) -> Vec<u32> {
     };
     let mut words = vec![0; count_candidates(settings) as usize];
     // every candidate fits at this threshold
-    let run = model::search(settings, b"00010001\n", u32::MAX, &mut [], &mut words);
+    let run = model::search(settings, b"000000010001\n", u32::MAX, &mut [], &mut words);
     assert_eq!(run.map(|run| run.found), Ok(words.len()));
     words
 }

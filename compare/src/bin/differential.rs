@@ -5,6 +5,7 @@
 
 use compare::comparison::{lists, logs, places, programs, required, searches, Comparison};
 use compare::generate::Random;
+use compare::model::COUNT_DIGITS;
 use std::path::PathBuf;
 use std::process::ExitCode;
 use std::time::Instant;
@@ -44,7 +45,7 @@ fn options() -> Result<Options, String> {
 }
 
 fn run(options: &Options) -> Comparison {
-    let mut comparison = Comparison::default();
+    let mut comparison = Comparison::new(COUNT_DIGITS);
     let mut random = Random::new(options.seed);
     let rounds = options.rounds;
     logs::compare(&mut comparison, &mut random, rounds);

@@ -3,13 +3,14 @@
 use super::answers::{of_library, of_model, Answer};
 use super::buffers::{byte_pattern, rejected_pattern, word_pattern, Guarded};
 use super::{process, Tally};
-use crate::model::{self, Place, Settings};
+use crate::generate::{padded_input, padded_log};
+use crate::model::{self, Place, Reader, Settings, COUNT_DIGITS};
 use std::path::Path;
 
 /// Calls both sides and counts.
-#[derive(Default)]
 pub struct Comparison {
     pub tally: Tally,
+    reader: Reader,
     plausible: bool,
 }
 
@@ -52,6 +53,25 @@ fn ending(output: &[u8]) -> String {
 }
 
 impl Comparison {
+    /// Texts have so many digits of case count. With fewer than the proved side reads, that side is
+    /// lent them with zeros for the missing ones before every line of a log.
+    pub fn new(count_digits: usize) -> Comparison {
+        Comparison {
+            tally: Tally::default(),
+            reader: Reader { count_digits },
+            plausible: false,
+        }
+    }
+
+    fn missing_digits(&self) -> usize {
+        COUNT_DIGITS - self.reader.count_digits
+    }
+
+    /// The text of a log as the proved side is lent it.
+    fn given_log(&self, text: &[u8]) -> Guarded<u8> {
+        Guarded::copy(&padded_log(self.missing_digits(), text), b'0')
+    }
+
     /// Counts what a call was expected to answer.
     fn reach(&mut self, call: &'static str, expected: &Answer, answered: &str) {
         let outcome = match expected {
@@ -62,8 +82,8 @@ impl Comparison {
     }
 
     pub fn check(&mut self, kind: &'static str, activities: u8, text: &[u8]) {
-        let expected = of_model(model::check(activities, text));
-        let mut given = Guarded::copy(text, b'0');
+        let expected = of_model(self.reader.check(activities, text));
+        let mut given = self.given_log(text);
         let before = given.clone();
         let actual = of_library(placelist::check(activities, given.inside()));
         let same = actual == expected && given == before;
@@ -75,8 +95,8 @@ impl Comparison {
     }
 
     pub fn replay(&mut self, kind: &'static str, activities: u8, text: &[u8], place: Place) {
-        let expected = of_model(model::replay(activities, text, place));
-        let mut given = Guarded::copy(text, b'0');
+        let expected = of_model(self.reader.replay(activities, text, place));
+        let mut given = self.given_log(text);
         let before = given.clone();
         let answer = placelist::replay(activities, given.inside(), library_place(place));
         let actual = of_library(answer);
@@ -97,8 +117,8 @@ impl Comparison {
         text: &[u8],
         place: Place,
     ) {
-        let expected = of_model(model::judge(activities, threshold, text, place));
-        let mut given = Guarded::copy(text, b'0');
+        let expected = of_model(self.reader.judge(activities, threshold, text, place));
+        let mut given = self.given_log(text);
         let before = given.clone();
         let its_text = given.inside();
         let answer = placelist::judge(activities, threshold, its_text, library_place(place));
@@ -125,11 +145,12 @@ impl Comparison {
         let mut found = Guarded::new(sizes.found, word_pattern(self.plausible));
         let (mut its_rejected, mut its_found) = (rejected.clone(), found.clone());
         let (room, list) = (rejected.inside(), found.inside());
-        let answer = model::search(settings, text, sizes.budget, room, list);
+        let reader = self.reader;
+        let answer = reader.search(settings, text, sizes.budget, room, list);
         let listed = answer.map_or(vec![], |run| list[..run.found].to_vec());
         let expected = of_model(answer);
 
-        let mut given = Guarded::copy(text, b'0');
+        let mut given = self.given_log(text);
         let before = given.clone();
         let (room, list) = (its_rejected.inside(), its_found.inside());
         let its_text = given.inside();
@@ -189,8 +210,8 @@ impl Comparison {
     pub fn report(&mut self, kind: &'static str, input: &[u8], room: usize) {
         let mut output = Guarded::new(room, byte_pattern);
         let mut its_output = output.clone();
-        let expected = of_model(model::report(input, output.inside()));
-        let mut given = Guarded::copy(input, b'0');
+        let expected = of_model(self.reader.report(input, output.inside()));
+        let mut given = Guarded::copy(&padded_input(self.missing_digits(), input), b'0');
         let before = given.clone();
         let actual = of_library(placelist::report(given.inside(), its_output.inside()));
         let same = actual == expected && its_output == output && given == before;
@@ -206,8 +227,9 @@ impl Comparison {
 
     /// Runs the program, fed in pieces of so many bytes.
     pub fn program(&mut self, kind: &'static str, program: &Path, input: &[u8], piece: usize) {
-        let expected = model::program_text(input);
-        let actual = process::run(program, input, piece);
+        let expected = self.reader.program_text(input);
+        let padded = padded_input(self.missing_digits(), input);
+        let actual = process::run(program, &padded, piece);
         self.tally.reach("program", ending(&expected));
         self.tally
             .record(kind, actual.as_ref() == Ok(&expected), || {

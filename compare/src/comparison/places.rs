@@ -1,25 +1,25 @@
 //! Comparisons of replayed and judged places.
 
-use super::logs::WORKED;
+use super::logs::{LIMIT_COUNTS, WORKED};
 use super::Comparison;
 use crate::generate::{
-    any_place, each_changed_byte, faulty_logs, long_log, random_log, random_place,
+    any_place, each_changed_byte, faulty_logs, halved_log, long_log, random_log, random_place,
     random_threshold, Random,
 };
-use crate::model::{self, Place};
+use crate::model::{self, Place, MOST_FRAMES};
 
 /// Texts of every kind of fault, for a bound of 3.
 pub const TEXTS: [&[u8]; 10] = [
     b"",
-    b"0001000201\n",
+    b"00000001000201\n",
     b"\n",
-    b"0001000201",
-    b"0000000201\n",
-    b"0001000301\n",
-    b"0001000200\n",
-    b"0001000201\n00010301\n",
-    b"0001000201\n0001000101\n0001\n",
-    b"0001000201\nFFFF0001\n",
+    b"00000001000201",
+    b"00000000000201\n",
+    b"00000001000301\n",
+    b"00000001000200\n",
+    b"00000001000201\n000000010301\n",
+    b"00000001000201\n00000001000101\n00000001\n",
+    b"00000001000201\nFFFFFFFF0001\n",
 ];
 
 /// All comparisons of this kind; the random ones so many times.
@@ -81,7 +81,7 @@ fn changed_bytes(comparison: &mut Comparison) {
         inputs: 5,
         outputs: 6,
     };
-    each_changed_byte(b"0001000201\n0002000201\n0C0A0001\n", |text| {
+    each_changed_byte(b"00000001000201\n00000002000201\n0C0A00B00001\n", |text| {
         comparison.replay("replay: every byte changed", 3, text, place);
         comparison.judge("judge: every byte changed", 3, 100, text, place);
     });
@@ -136,13 +136,17 @@ fn thresholds(comparison: &mut Comparison, random: &mut Random) {
             }
         }
     }
-    exact_shares(comparison);
+    for scale in [1, 0x1_0001, 4_294_967] {
+        exact_shares(comparison, scale);
+    }
+    limit_counts(comparison);
 }
 
-/// Shares that are whole thousandths: the verdict turns just above.
-fn exact_shares(comparison: &mut Comparison) {
+/// Shares that are whole thousandths, of so many thousand cases: the verdict turns just above.
+fn exact_shares(comparison: &mut Comparison, scale: u64) {
     for faulty in 1..1000u16 {
-        let text = format!("{faulty:04X}0001\n{:04X}000201\n", 1000 - faulty);
+        let cases = scale * u64::from(faulty);
+        let text = format!("{cases:08X}0001\n{:08X}000201\n", 1000 * scale - cases);
         for (inputs, outputs) in [(4, 2), (1, 4), (4, 4), (1, 8), (8, 4)] {
             let place = Place { inputs, outputs };
             for threshold in [faulty - 1, faulty, 1000 - faulty, 999 - faulty] {
@@ -153,9 +157,31 @@ fn exact_shares(comparison: &mut Comparison) {
     }
 }
 
+/// Counts at their limits. Half of the frames underfeed the place: at 500 one case decides.
+fn limit_counts(comparison: &mut Comparison) {
+    let place = Place {
+        inputs: 4,
+        outputs: 2,
+    };
+    for cases in LIMIT_COUNTS {
+        for last in [1, cases.max(1) - 1, cases, 0xFFFF_FFFF.min(cases + 1)] {
+            for frames in [2, 3, MOST_FRAMES - 1, MOST_FRAMES] {
+                limit_shares(comparison, &halved_log(frames, cases, last), place);
+            }
+        }
+    }
+}
+
+/// One such log, at thresholds around a half and at the ends of their range.
+fn limit_shares(comparison: &mut Comparison, text: &[u8], place: Place) {
+    for threshold in [0, 333, 499, 500, 501, 999, 1000] {
+        comparison.judge("judge: counts at the limits", 3, threshold, text, place);
+    }
+}
+
 /// Balances at the ends of their ranges.
 fn longest_frames(comparison: &mut Comparison, random: &mut Random) {
-    let all = |code: u8| format!("000100{}01\n", format!("{code:02X}").repeat(252));
+    let all = |code: u8| format!("0000000100{}01\n", format!("{code:02X}").repeat(252));
     for (inputs, outputs) in [
         (4, 8),
         (8, 4),

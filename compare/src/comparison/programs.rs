@@ -3,15 +3,16 @@
 use super::places::TEXTS;
 use super::Comparison;
 use crate::generate::{
-    count_candidates, each_changed_byte, log_of_bytes, random_log, random_settings, Random,
+    count_candidates, each_changed_byte, halved_log, log_of_bytes, random_log, random_settings,
+    settings_line, Random,
 };
-use crate::model::{Settings, MOST_INPUT, MOST_OUTPUT};
+use crate::model::{Settings, MOST_FRAMES, MOST_INPUT, MOST_OUTPUT};
 use std::path::Path;
 
 /// The written case.
-const WORKED: &[u8] = b"0303010000\n00010001\n";
+const WORKED: &[u8] = b"0303010000\n000000010001\n";
 /// More than a million candidates, few of them fitting: the budget is used up.
-const WHOLE_BUDGET: &[u8] = b"1004040000\n000100020304050607080901\n";
+const WHOLE_BUDGET: &[u8] = b"1004040000\n0000000100020304050607080901\n";
 
 /// All comparisons on slices; the random ones so many times.
 pub fn compare_reports(comparison: &mut Comparison, random: &mut Random, rounds: usize) {
@@ -23,7 +24,7 @@ pub fn compare_reports(comparison: &mut Comparison, random: &mut Random, rounds:
     for input in fixed_inputs(random) {
         comparison.report("report: settings, sizes and ends", &input, MOST_OUTPUT);
     }
-    each_changed_byte(b"0302010064\n0009000201\n00010001\n", |input| {
+    each_changed_byte(b"0302010064\n00000009000201\n000000010001\n", |input| {
         comparison.report("report: every byte changed", input, MOST_OUTPUT + 1);
     });
     for _ in 0..rounds {
@@ -50,7 +51,7 @@ pub fn compare_program(
             MOST_INPUT,
         );
     }
-    for piece in [1, 2, 3, 7, 10, 11, 12, 19] {
+    for piece in [1, 2, 3, 7, 10, 11, 12, 19, 23] {
         comparison.program("program: short pieces", program, WORKED, piece);
     }
     comparison.program("program: a whole budget", program, WHOLE_BUDGET, MOST_INPUT);
@@ -73,17 +74,6 @@ fn rooms() -> Vec<usize> {
         .chain(near)
         .chain([MOST_OUTPUT / 2, 50_000])
         .collect()
-}
-
-/// The first line of an input.
-fn settings_line(settings: Settings) -> Vec<u8> {
-    let Settings {
-        activities,
-        inputs,
-        outputs,
-        threshold,
-    } = settings;
-    format!("{activities:02X}{inputs:02X}{outputs:02X}{threshold:04X}\n").into_bytes()
 }
 
 /// An input of exactly so many bytes.
@@ -140,6 +130,10 @@ fn fixed_inputs(random: &mut Random) -> Vec<Vec<u8>> {
             inputs.push([line.as_bytes(), text].concat());
         }
     }
+    for last in [0xFFFF_FFFE, 0xFFFF_FFFF] {
+        let text = halved_log(MOST_FRAMES, 0xFFFF_FFFF, last);
+        inputs.push([b"03030301F4\n", &text[..]].concat());
+    }
     // every candidate fits: a list that is just short of full, and full ones
     for line in [
         "06060603E8\n",
@@ -147,7 +141,7 @@ fn fixed_inputs(random: &mut Random) -> Vec<Vec<u8>> {
         "10101003E8\n",
         "0E010403E8\n",
     ] {
-        inputs.push([line.as_bytes(), b"0001000201\n"].concat());
+        inputs.push([line.as_bytes(), b"00000001000201\n"].concat());
     }
     for line in [
         "0803030000\n",

@@ -1,17 +1,19 @@
 //! Comparisons of searches.
 
+use super::logs::LIMIT_COUNTS;
 use super::places::TEXTS;
 use super::{Comparison, Sizes};
 use crate::generate::{
-    count_candidates, each_changed_byte, faulty_logs, random_log, random_settings,
+    count_candidates, each_changed_byte, faulty_logs, halved_log, random_log, random_settings,
     random_threshold, Random,
 };
-use crate::model::Settings;
+use crate::model::{Settings, MOST_FRAMES};
 
 /// All comparisons of this kind; the random ones so many times.
 pub fn compare(comparison: &mut Comparison, random: &mut Random, rounds: usize) {
     refusals(comparison);
     damaged_logs(comparison);
+    limit_counts(comparison);
     small_sizes(comparison, random, 4 + 2 * rounds);
     for _ in 0..rounds {
         random_searches(comparison, random);
@@ -60,11 +62,36 @@ fn damaged_logs(comparison: &mut Comparison) {
         found: 10,
     };
     let settings = settings(3, 1, 1, 0);
-    each_changed_byte(b"0001000201\n000200020201\n", |text| {
+    each_changed_byte(b"00000001000201\n0000000200020201\n", |text| {
         comparison.search("search: every byte changed", settings, text, sizes);
     });
     for text in faulty_logs() {
         comparison.search("search: logs at the limits", settings, &text, sizes);
+    }
+}
+
+/// Counts at their limits. Half of the frames are of either kind: at 500 one case decides.
+fn limit_counts(comparison: &mut Comparison) {
+    for cases in LIMIT_COUNTS {
+        for frames in [2, MOST_FRAMES] {
+            for fewer in [0, 1] {
+                let text = halved_log(frames, cases, cases.max(fewer) - fewer);
+                limit_shares(comparison, &text);
+            }
+        }
+    }
+}
+
+/// One such log, at thresholds around a half and at the ends of their range.
+fn limit_shares(comparison: &mut Comparison, text: &[u8]) {
+    let sizes = Sizes {
+        budget: 49,
+        rejected: 49,
+        found: 49,
+    };
+    for threshold in [0, 499, 500, 501, 1000] {
+        let settings = settings(3, 3, 3, threshold);
+        comparison.search("search: counts at the limits", settings, text, sizes);
     }
 }
 
@@ -77,7 +104,7 @@ fn small_sizes(comparison: &mut Comparison, random: &mut Random, logs: usize) {
             _ => settings(4, 2, 2, random_threshold(random)),
         };
         let text = match index {
-            0 => b"0001000201\n".to_vec(),
+            0 => b"00000001000201\n".to_vec(),
             _ => random_log(random, settings.activities, 4),
         };
         for budget in (0..24).chain([30, 36, 41, 42, 43, 99, 100, u32::MAX]) {

@@ -30,7 +30,7 @@ pub fn faulty_lines() -> Vec<Vec<u8>> {
     let mut lines = Vec::new();
     for faults in 0..1 << 8 {
         let has = |fault: u32| faults >> fault & 1 == 1;
-        let mut line = if has(0) { "0000" } else { "0001" }.to_string();
+        let mut line = if has(0) { "00000000" } else { "00000001" }.to_string();
         line += if has(1) { "02" } else { "00" };
         line += &"02".repeat(if has(2) { MOST_EVENTS - 1 } else { 1 });
         line += match (has(3), has(4)) {
@@ -49,22 +49,37 @@ pub fn faulty_lines() -> Vec<Vec<u8>> {
         "\n",
         "0\n",
         "0001\n",
-        "000100\n",
-        "0001001\n",
+        "0001000\n",
         "00010001\n",
-        "0000FF01\n",
-        "00010100\n",
-        "00010000\n",
-        "00010101\n",
-        "FFFF0001\n",
-        "ffff0001\n",
-        "0001FF\n",
-        "0001FFFF\n",
-        "0001000201\r\n",
-        " 0001000201\n",
-        "0001 000201\n",
-        "+0010001\n",
-        "0x010001\n",
+        "000100001\n",
+        "0001000201\n",
+        "00010002001\n",
+        "00000000\n",
+        "00000001\n",
+        "000000010\n",
+        "0000000100\n",
+        "00000001001\n",
+        "000000010001\n",
+        "0000000100010\n",
+        "00000000FF01\n",
+        "000000010100\n",
+        "000000010000\n",
+        "000000010101\n",
+        "0000FFFF0001\n",
+        "000100000001\n",
+        "FFFF00000001\n",
+        "FFFFFFFF0001\n",
+        "ffffffff0001\n",
+        "0000ffff0001\n",
+        "ffff00000001\n",
+        "00000001FF\n",
+        "00000001FFFF\n",
+        "00000001000201\r\n",
+        " 00000001000201\n",
+        "00000001 000201\n",
+        "0000 0001000201\n",
+        "+00000010001\n",
+        "0x0000010001\n",
     ];
     lines.extend(others.iter().map(|line| line.as_bytes().to_vec()));
     lines
@@ -72,7 +87,7 @@ pub fn faulty_lines() -> Vec<Vec<u8>> {
 
 /// Whole logs at and beyond the limits, for a bound of 3.
 pub fn faulty_logs() -> Vec<Vec<u8>> {
-    let line = |events: usize| format!("000100{}01\n", "02".repeat(events - 2));
+    let line = |events: usize| format!("0000000100{}01\n", "02".repeat(events - 2));
     let mut logs = vec![Vec::new()];
     for events in [
         2,
@@ -88,10 +103,15 @@ pub fn faulty_logs() -> Vec<Vec<u8>> {
         logs.push(line(events).replace('\n', "").into_bytes());
         logs.push((line(2) + &line(events) + &line(3)).into_bytes());
     }
+    for digits in 8..=14 {
+        let short = &"00000001000101"[..digits];
+        logs.push(format!("{short}\n").into_bytes());
+        logs.push(format!("{}{short}\n{}", line(2), line(3)).into_bytes());
+    }
     for frames in [MOST_FRAMES - 1, MOST_FRAMES, MOST_FRAMES + 1, 5000] {
         let log = line(2).repeat(frames);
         logs.push(log.trim_end().as_bytes().to_vec());
-        for rest in ["", "0", "\n", "x\n", "00010002\n", "\0"] {
+        for rest in ["", "0", "\n", "x\n", "000000010002\n", "\0"] {
             logs.push((log.clone() + rest).into_bytes());
         }
         logs.push(log.replacen("01\n", "03\n", 1).into_bytes());

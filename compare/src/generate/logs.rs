@@ -1,7 +1,10 @@
 //! Logs such as an office's processes leave.
 
 use super::Random;
-use crate::model::{Frame, MOST_EVENTS, MOST_FRAMES};
+use crate::model::{Frame, COUNT_DIGITS, MOST_EVENTS, MOST_FRAMES};
+
+/// The bytes of a line with the fewest activities.
+const SHORTEST_LINE: usize = COUNT_DIGITS + 5;
 
 /// A process over activities, each used once in its description.
 enum Process {
@@ -104,20 +107,33 @@ fn frame(cases: u64, mut inner: Vec<u8>) -> Frame {
     }
 }
 
-fn random_count(random: &mut Random) -> u64 {
+/// A count up to `most`, often a small one.
+fn random_count(random: &mut Random, most: u64) -> u64 {
     match random.below(8) {
         0 => 1,
-        1 => 0xFFFF,
-        2 => random.between(1, 0xFFFF) as u64,
+        1 => most,
+        2 => random.between(1, most as usize) as u64,
         _ => random.between(1, 40) as u64,
     }
 }
 
-/// The text of frames.
-pub fn text_of(frames: &[Frame]) -> Vec<u8> {
+/// A greatest count: of four digits, of all eight, and with nothing in the lower four.
+fn random_most_cases(random: &mut Random) -> u64 {
+    random.pick(&[
+        0xFFFF,
+        0x1_0000,
+        0x1_0001,
+        0xA_0000,
+        0xFFFF_0000,
+        0xFFFF_FFFF,
+    ])
+}
+
+/// The text of frames, case counts in so many digits.
+pub fn text_of(count_digits: usize, frames: &[Frame]) -> Vec<u8> {
     let mut text = Vec::new();
     for frame in frames {
-        text.extend(format!("{:04X}", frame.cases).bytes());
+        text.extend(format!("{:0count_digits$X}", frame.cases).bytes());
         for code in &frame.trace {
             text.extend(format!("{code:02X}").bytes());
         }
@@ -135,6 +151,8 @@ pub struct LogShape {
     pub noise: usize,
     /// how many of a hundred frames repeat an earlier one's activities
     pub repeats: usize,
+    /// the greatest case count of a frame
+    pub most_cases: u64,
 }
 
 /// A log of a random process.
@@ -143,7 +161,7 @@ pub fn process_log(random: &mut Random, shape: LogShape) -> Vec<Frame> {
     let process = (!codes.is_empty()).then(|| Process::random(random, &codes));
     let mut frames: Vec<Frame> = Vec::new();
     for _ in 0..shape.frames {
-        let cases = random_count(random);
+        let cases = random_count(random, shape.most_cases);
         if !frames.is_empty() && random.chance(shape.repeats) {
             let trace = frames[random.below(frames.len())].trace.clone();
             frames.push(Frame { cases, trace });
@@ -165,37 +183,52 @@ pub fn random_log(random: &mut Random, activities: u8, most_frames: usize) -> Ve
         frames: random.between(1, most_frames.min(MOST_FRAMES)),
         noise: random.pick(&[0, 5, 30, 60]),
         repeats: random.pick(&[0, 20]),
+        most_cases: random_most_cases(random),
     };
-    text_of(&process_log(random, shape))
+    text_of(COUNT_DIGITS, &process_log(random, shape))
 }
 
 /// A log of frames at or just below the most activities.
 pub fn long_log(random: &mut Random, activities: u8, frames: usize) -> Vec<u8> {
+    let most_cases = random_most_cases(random);
     let long = |random: &mut Random| {
         let events = random.between(MOST_EVENTS - 6, MOST_EVENTS - 2);
         let inner = (0..events)
             .map(|_| random_step(random, activities))
             .collect();
-        frame(random_count(random), inner)
+        frame(random_count(random, most_cases), inner)
     };
     let frames: Vec<Frame> = (0..frames).map(|_| long(random)).collect();
-    text_of(&frames)
+    text_of(COUNT_DIGITS, &frames)
 }
 
-/// A log of exactly so many bytes, at least 18, for a bound above 2.
+/// A log of which half of the frames, the first ones, go from the start straight to the end and the
+/// others have activity 2 between. The last one may have another count.
+pub fn halved_log(frames: usize, cases: u64, last: u64) -> Vec<u8> {
+    let of_index = |index: usize| {
+        let inner = if index < frames / 2 { vec![] } else { vec![2] };
+        frame(if index + 1 < frames { cases } else { last }, inner)
+    };
+    let frames: Vec<Frame> = (0..frames).map(of_index).collect();
+    text_of(COUNT_DIGITS, &frames)
+}
+
+/// A log of exactly so many bytes, at least those of two shortest lines, for a bound above 2.
 pub fn log_of_bytes(random: &mut Random, activities: u8, bytes: usize) -> Vec<u8> {
+    let most_cases = random_most_cases(random);
     let mut text = Vec::new();
     while text.len() < bytes {
         let rest = bytes - text.len();
-        // a line has an odd number of bytes, from 9 to 513
+        // a line has an odd number of bytes, from 13 to 517
         let line = match rest {
             0..=99 if rest % 2 == 1 => rest,
-            0..=99 => 9,
-            _ => 2 * random.between(10, 30) + 9,
+            0..=99 => SHORTEST_LINE,
+            _ => 2 * random.between(10, 30) + SHORTEST_LINE,
         };
-        let steps = 0..(line - 9) / 2;
+        let steps = 0..(line - SHORTEST_LINE) / 2;
         let inner = steps.map(|_| random_step(random, activities)).collect();
-        text.extend(text_of(&[frame(random_count(random), inner)]));
+        let frame = frame(random_count(random, most_cases), inner);
+        text.extend(text_of(COUNT_DIGITS, &[frame]));
     }
     text
 }

@@ -35,9 +35,9 @@ pub fn write_lines(words: &[u32], text: &mut [u8]) {
     }
 }
 
-/// What the program writes for an input.
-pub fn program_text(input: &[u8]) -> Vec<u8> {
-    match list_places(input) {
+/// What the program writes for an input, the case counts of its log having so many digits.
+pub fn program_text(count_digits: usize, input: &[u8]) -> Vec<u8> {
+    match list_places(count_digits, input) {
         Ok((words, run)) => {
             let mut text = vec![0; PLACE_BYTES * words.len()];
             write_lines(&words, &mut text);
@@ -53,13 +53,13 @@ pub fn program_text(input: &[u8]) -> Vec<u8> {
 }
 
 /// The places that the program lists, and its run.
-fn list_places(input: &[u8]) -> Result<(Vec<u32>, Run), Refusal> {
+fn list_places(count_digits: usize, input: &[u8]) -> Result<(Vec<u32>, Run), Refusal> {
     if input.len() > MOST_INPUT {
         return Err(Refusal::TooLarge { line: 0 });
     }
     let (settings, text) = split_settings(input).ok_or(Refusal::InvalidSetting)?;
     settings.check()?;
-    let log = Log::parse(settings.activities, text)?;
+    let log = Log::parse(count_digits, settings.activities, text)?;
     let mut rejected = vec![0; MOST_REJECTED];
     let mut found = vec![0; MOST_FOUND];
     let run = search_log(settings, &log, BUDGET, &mut rejected, &mut found);

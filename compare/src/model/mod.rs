@@ -6,33 +6,34 @@ mod judging;
 mod listing;
 mod log;
 mod place;
+mod reader;
 mod reduction;
 mod refusal;
 mod search;
 mod settings;
 
 pub use judging::{Balances, Judgement, Verdict};
-pub use listing::{program_text, Listing, MOST_INPUT, MOST_OUTPUT, PLACE_BYTES};
-pub use log::{Frame, Log, LogSize, MOST_EVENTS, MOST_FRAMES};
+pub use listing::{Listing, MOST_INPUT, MOST_OUTPUT, PLACE_BYTES};
+pub use log::{Frame, Log, LogSize, COUNT_DIGITS, MOST_EVENTS, MOST_FRAMES};
 pub use place::Place;
+pub use reader::Reader;
 pub use refusal::Refusal;
 pub use search::{End, Run};
 pub use settings::{Settings, MOST_ACTIVITIES};
 
-use settings::{check_activities, check_threshold};
+/// Reads the frames of the scope.
+pub const READER: Reader = Reader {
+    count_digits: COUNT_DIGITS,
+};
 
 /// Checks a log.
 pub fn check(activities: u8, text: &[u8]) -> Result<LogSize, Refusal> {
-    check_activities(activities)?;
-    log::measure(activities, text)
+    READER.check(activities, text)
 }
 
 /// Replays line 0 of a log.
 pub fn replay(activities: u8, text: &[u8], place: Place) -> Result<Balances, Refusal> {
-    check_activities(activities)?;
-    place::check_place(activities, place)?;
-    let log = Log::parse(activities, text)?;
-    Ok(judging::replay_trace(&log.frames[0].trace, place))
+    READER.replay(activities, text, place)
 }
 
 /// Judges a place over a log.
@@ -42,11 +43,7 @@ pub fn judge(
     text: &[u8],
     place: Place,
 ) -> Result<Judgement, Refusal> {
-    check_activities(activities)?;
-    check_threshold(threshold)?;
-    place::check_place(activities, place)?;
-    let log = Log::parse(activities, text)?;
-    Ok(judging::judge_log(&log, threshold, place))
+    READER.judge(activities, threshold, text, place)
 }
 
 /// Searches the fitting candidates.
@@ -57,9 +54,7 @@ pub fn search(
     rejected: &mut [u64],
     found: &mut [u32],
 ) -> Result<Run, Refusal> {
-    settings.check()?;
-    let log = Log::parse(settings.activities, text)?;
-    Ok(search::search_log(settings, &log, budget, rejected, found))
+    READER.search(settings, text, budget, rejected, found)
 }
 
 /// Writes the words that are no union of others of the list.
@@ -95,10 +90,7 @@ pub fn list(
     found: &mut [u32],
     kept: &mut [u32],
 ) -> Result<Listing, Refusal> {
-    let run = search(settings, text, budget, rejected, found)?;
-    let complete = run.end == End::Complete;
-    let reduced = complete.then(|| reduce(&found[..run.found], kept));
-    Ok(Listing { run, reduced })
+    READER.list(settings, text, budget, rejected, found, kept)
 }
 
 /// Writes the words as lines.
@@ -112,12 +104,12 @@ pub fn write(words: &[u32], text: &mut [u8]) -> Result<usize, Refusal> {
     Ok(length)
 }
 
+/// What the program writes for an input.
+pub fn program_text(input: &[u8]) -> Vec<u8> {
+    READER.program_text(input)
+}
+
 /// Writes what the program writes for an input.
 pub fn report(input: &[u8], output: &mut [u8]) -> Result<usize, Refusal> {
-    if output.len() < MOST_OUTPUT {
-        return Err(Refusal::BufferTooSmall);
-    }
-    let text = program_text(input);
-    output[..text.len()].copy_from_slice(&text);
-    Ok(text.len())
+    READER.report(input, output)
 }

@@ -31,7 +31,7 @@ said answer = answer_number answer ∷ answer_value answer ∷ []
 
 -- two cases go by 2, and one by 3
 abbrev log : List ℕ
-log = bytes "0002000201\n0001000301\n"
+log = bytes "00000002000201\n00000001000301\n"
 
 abbrev checking : ℕ → List ℕ
 checking A = said (checked A log)
@@ -48,7 +48,7 @@ abbrev judging : ℕ → Result Judgement Refusal
 judging T = judged 4 T log (place 4 2)
 
 abbrev searching : ℕ → Result Run Refusal
-searching A = discovered (settings_of A 3 1 0) (bytes "00010001\n") (holding 9 9 99)
+searching A = discovered (settings_of A 3 1 0) (bytes "000000010001\n") (holding 9 9 99)
 
 -- the third place is the union of the others
 abbrev reducing : ℕ → Result ℕ Refusal
@@ -59,7 +59,7 @@ writing room = written (word (place 1 2) ∷ word (place 4 4) ∷ []) room
 
 -- three places and the last line
 abbrev reporting : ℕ → Result ℕ Refusal
-reporting room = reported (bytes "0303010000\n00010001\n") room
+reporting room = reported (bytes "0303010000\n000000010001\n") room
 
 pub record Examples : Type 0 where
   pub checks : checking 4 ≡ 0 ∷ 0 ∷ []

@@ -28,7 +28,7 @@ use reporter::report_places;
 use writer::write_places;
 
 // The version of the calls and formats, as `library/placelist.h` has it.
-const MAJOR: u32 = 1;
+const MAJOR: u32 = 2;
 
 const MINOR: u32 = 0;
 

@@ -49,7 +49,7 @@ ran end found rejected replays visits =
 -- either of two signatures, 2 or 3, releases the case: 56 candidates of at most three inputs and
 -- one output
 abbrev either_log : List ℕ
-either_log = bytes "0002000201\n0001000301\n"
+either_log = bytes "00000002000201\n00000001000301\n"
 
 abbrev either : Capacity → Result Run Refusal
 either room = discovered (settings 4 3 1) either_log room
@@ -78,9 +78,9 @@ pub record RunExamples : Type 0 where
       ≡ rejected_word (place 0x0001 0x0001) Underfed ∷ rejected_word (place 0x0003 0x0001) Both ∷ 9 ∷ []
   pub figure_1 : figure1 (holding 126 126 126) ≡ ran Completed 6 75 81 97
   pub setting_refused : discovered (settings 4 5 1) [] (holding 0 0 0) ≡ Err InvalidSetting
-  pub log_refused : discovered (settings 4 3 1) (bytes "00010100\n") (holding 0 0 0) ≡ Err (MisplacedEndpoint 0)
+  pub log_refused : discovered (settings 4 3 1) (bytes "000000010100\n") (holding 0 0 0) ≡ Err (MisplacedEndpoint 0)
   pub list_as_found : found_after (settings 4 5 1) either_log (5 ∷ []) (7 ∷ 8 ∷ []) 56 ≡ 7 ∷ 8 ∷ []
-  pub cache_as_found : rejected_after (settings 4 3 1) (bytes "00010100\n") (7 ∷ 8 ∷ []) (5 ∷ []) 56 ≡ 7 ∷ 8 ∷ []
+  pub cache_as_found : rejected_after (settings 4 3 1) (bytes "000000010100\n") (7 ∷ 8 ∷ []) (5 ∷ []) 56 ≡ 7 ∷ 8 ∷ []
 
 pub ruling_examples : RulingExamples
 unfolding opened

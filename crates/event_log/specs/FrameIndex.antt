@@ -1,11 +1,11 @@
--- The index of a log's frames: an entry for each, with all that is asked of a frame again and again.
--- Document 01, "Settings and the log".
+-- The index of a log's frames: an entry for each, from which and from the one before it all is read
+-- that is asked of a frame again and again. Document 01, "Settings and the log".
 -- Assumes nothing.
 use Rattle.std.specs.Prelude.{ℕ, ◌+◌, ◌-◌, ◌*◌, ◌≡◌, length, take, drop, get_or}
 use mathlib.Core.List.{List, [], ◌∷◌, flat_map}
 use Rattle.limits.specs.Settings.{most_activities}
 use Rattle.hex_digits.specs.Digits.{write_hex}
-use Rattle.event_log_spec.specs.Frames.{Frame, WrittenLog, count_digits}
+use Rattle.event_log_spec.specs.Frames.{Frame, WrittenLog, count_digits, write_frame}
 use Rattle.event_log_spec.specs.Lines.{frames_of}
 use Rattle.event_log.specs.declared.index.IndexedFrame.{IndexedFrame}
 
@@ -14,18 +14,24 @@ use Rattle.event_log.specs.declared.index.IndexedFrame.{IndexedFrame}
 unfoldable pub frame_index : ℕ → List Frame → List IndexedFrame
 frame_index from [] = []
 frame_index from (f ∷ frames) =
-    let start = from + count_digits in
-    let digits = 2 * length f.trace in
-    record { start = start; digits = digits; cases = f.cases } ∷ frame_index (start + digits + 1) frames
+    let end = from + count_digits + 2 * length f.trace in
+    record { end = end; cases = f.cases } ∷ frame_index (end + 1) frames
 
 -- a log that was accepted, and the index of its frames
 pub record Indexed (text : List ℕ) (index : List IndexedFrame) : Type 0 where
   pub log : WrittenLog most_activities (frames_of text) text
   pub indexed : index ≡ frame_index 0 (frames_of text)
 
--- a frame of a log by its line; beyond the last, one of no cases and no activities
+-- where the activity digits of a frame start: after the frames before it, and its own count
+unfoldable pub digits_start : List ℕ → ℕ → ℕ
+digits_start text line = length (flat_map write_frame (take line (frames_of text))) + count_digits
+
+-- a frame by its line; beyond the last, one of no cases and no activities
+abbrev pub frame_in : List Frame → ℕ → Frame
+frame_in frames line = get_or frames line (record { cases = 0; trace = [] })
+
 abbrev pub frame_at : List ℕ → ℕ → Frame
-frame_at text line = get_or (frames_of text) line (record { cases = 0; trace = [] })
+frame_at text = frame_in (frames_of text)
 
 -- the frames of a log from one line on up to another
 abbrev pub frames_between : ℕ → ℕ → List ℕ → List Frame

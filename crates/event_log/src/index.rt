@@ -5,7 +5,7 @@ ghost use Rattle.foundation.specs.Buffers.{overwrite};
 ghost use Rattle.limits.specs.Settings.{most_activities};
 ghost use Rattle.event_log_spec.specs.Frames.{WrittenLog, most_frames};
 ghost use Rattle.event_log_spec.specs.Lines.{frames_of};
-ghost use Rattle.event_log.specs.FrameIndex.{frame_index, Indexed, frame_at, activity_digits};
+ghost use Rattle.event_log.specs.FrameIndex.{frame_index, Indexed, digits_start, frame_at, activity_digits};
 ghost use Rattle.event_log_spec.proofs.laws.OneWay.{log_prop};
 ghost use Rattle.std.proofs.Props.{props};
 
@@ -13,12 +13,12 @@ use crate::frame::trace_end;
 use log_lines::COUNT_DIGITS;
 use log_lines::line::count_at;
 
-// A frame of a log: where its activity digits start in the text, how many they are, and its cases.
+// A frame of a log: where its activity digits end in the text, and its cases. The digits start after
+// the line feed of the frame before and the frame's own count.
 #[derive(Clone, Copy, Default)]
 pub struct IndexedFrame {
-    start: u32,
-    digits: u16,
-    cases: u16,
+    end: u32,
+    cases: u32,
 }
 
 // A log that was accepted, and an entry for each of its frames, so that nothing has to be looked for
@@ -56,16 +56,29 @@ impl<'a> IndexedLog<'a> {
         u64::from(self.index[frame].cases)
     }
 
+    // Where the activity digits of a frame start.
+    #[tactic(auto, using(crate::proofs::laws::IndexedFrames::found))]
+    fn digits_start(&self, frame: usize) -> usize
+        requires { frame < length (frames_of self.now.text.now) }
+        ensures { result ≡ digits_start self.now.text.now frame }
+    {
+        let line = match frame {
+            0 => 0,
+            _ => self.index[frame - 1].end as usize + 1,
+        };
+        line + COUNT_DIGITS
+    }
+
     // The activity digits of a frame: a part of the log's text.
     #[tactic(auto, using(crate::proofs::laws::IndexedFrames::found))]
     pub fn digits(&self, frame: usize) -> &'a [u8]
         requires { frame < length (frames_of self.now.text.now) }
         ensures { result.now ≡ activity_digits (frame_at self.now.text.now frame) }
     {
-        let indexed = self.index[frame];
-        let start = indexed.start as usize;
-        let end = start + usize::from(indexed.digits);
-        &self.text[start..end]
+        let start = self.digits_start(frame);
+        // in 16 bits, so that the compiler knows how few they are and takes two events in a turn
+        let digits = (self.index[frame].end as usize - start) as u16;
+        &self.text[start..start + usize::from(digits)]
     }
 }
 
@@ -81,13 +94,11 @@ pub fn index_frames(text: &[u8], index: &mut [IndexedFrame]) -> usize
     let mut count = 0;
     let mut at = 0;
     while at < text.len() {
-        let start = at + COUNT_DIGITS;
-        let end = trace_end(text, start);
+        let end = trace_end(text, at + COUNT_DIGITS);
         let cases = count_at(text, at).unwrap();
         index[count] = IndexedFrame {
-            start: start as u32,
-            digits: (end - start) as u16,
-            cases: cases as u16,
+            end: end as u32,
+            cases: cases as u32,
         };
         count += 1;
         at = end + 1;

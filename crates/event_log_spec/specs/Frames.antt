@@ -11,9 +11,10 @@ pub record Frame : Type 0 where
   pub cases : ℕ
   pub trace : List ℕ
 
--- the digits of a case count
+-- the digits of a case count. What reads, checks and writes frames takes their number (`.._with`),
+-- so that logs of eight can be held to logs of four
 abbrev pub count_digits : ℕ
-count_digits = 4
+count_digits = 8
 
 -- the most events of a trace, and the most frames of a log
 abbrev pub most_events : ℕ
@@ -23,8 +24,11 @@ abbrev pub most_frames : ℕ
 most_frames = 4096
 
 -- the digits of the shortest and of the longest frame: the count, and two for each activity
+abbrev pub shortest_with : ℕ → ℕ
+shortest_with digits = digits + 2 * 2
+
 abbrev pub shortest_frame : ℕ
-shortest_frame = count_digits + 2 * 2
+shortest_frame = shortest_with count_digits
 
 abbrev pub longest_frame : ℕ
 longest_frame = count_digits + 2 * most_events
@@ -44,9 +48,12 @@ pub record FrameUnder (A : ℕ) (f : Frame) : Type 0 where
   pub known : Each (λ (a : ℕ). a < A) f.trace
   pub behaviour : Behaviour f.trace
 
--- a frame as a line: the count, two digits for each activity, a line feed
-unfoldable pub write_frame : Frame → List ℕ
-write_frame f = write_hex count_digits f.cases ++ flat_map (write_hex 2) f.trace ++ (line_feed ∷ [])
+-- a frame as a line: the count, of so many digits, two digits for each activity, a line feed
+unfoldable pub written_with : ℕ → Frame → List ℕ
+written_with digits f = write_hex digits f.cases ++ flat_map (write_hex 2) f.trace ++ (line_feed ∷ [])
+
+abbrev pub write_frame : Frame → List ℕ
+write_frame = written_with count_digits
 
 -- the text is a log under A, built from these frames
 pub record WrittenLog (A : ℕ) (frames : List Frame) (text : List ℕ) : Type 0 where

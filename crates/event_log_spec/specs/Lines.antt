@@ -1,6 +1,6 @@
 -- A text's lines, and the frame that a line's digits stand for. Document 01, "Settings and the log".
 -- Assumes nothing.
-use Rattle.std.specs.Prelude.{ℕ, Bool, true, false, cond, List, [], ◌∷◌, map, eqb, take, drop, get_or}
+use Rattle.std.specs.Prelude.{ℕ, Bool, true, false, cond, List, [], ◌∷◌, ◌++◌, map, eqb, take, drop, get_or}
 use Rattle.hex_digits.specs.Digits.{read_hex, line_feed}
 use Rattle.event_log_spec.specs.Frames.{Frame, count_digits}
 
@@ -8,6 +8,10 @@ use Rattle.event_log_spec.specs.Frames.{Frame, count_digits}
 pub record Line : Type 0 where
   pub bytes : List ℕ
   pub ended : Bool
+
+-- the bytes of a line with the line feed that ends it, if one does
+abbrev pub line_text : Line → List ℕ
+line_text l = l.bytes ++ cond l.ended (line_feed ∷ []) []
 
 -- a byte in front of the first line
 abbrev pub put_first : ℕ → List Line → List Line
@@ -29,10 +33,16 @@ read_pairs [] = []
 read_pairs (d ∷ []) = []
 read_pairs (d ∷ (e ∷ bytes)) = read_hex (d ∷ e ∷ []) ∷ read_pairs bytes
 
--- the count, and behind it the activities, by two digits each
-unfoldable pub frame_of : Line → Frame
-frame_of l = record { cases = read_hex (take count_digits l.bytes); trace = read_pairs (drop count_digits l.bytes) }
+-- the count, of so many digits, and behind it the activities, by two digits each
+unfoldable pub frame_with : ℕ → Line → Frame
+frame_with digits l = record { cases = read_hex (take digits l.bytes); trace = read_pairs (drop digits l.bytes) }
+
+abbrev pub frame_of : Line → Frame
+frame_of = frame_with count_digits
 
 -- the frames of an accepted text
-unfoldable pub frames_of : List ℕ → List Frame
-frames_of text = map frame_of (lines text)
+unfoldable pub frames_with : ℕ → List ℕ → List Frame
+frames_with digits text = map (frame_with digits) (lines text)
+
+abbrev pub frames_of : List ℕ → List Frame
+frames_of = frames_with count_digits

@@ -8,7 +8,8 @@ use Rattle.limits.specs.declared.Settings.{Settings}
 use Rattle.limits.specs.Refusals.{number, value, Numbered, answer_number, answer_value}
 use Rattle.discovery_spec.specs.declared.Run.{Run}
 use Rattle.discovery_spec.specs.Search.{is_completed}
-use Rattle.discovery_spec.specs.Discovery.{discovered, capacity_of, found_after, rejected_after}
+use Rattle.event_log_spec.specs.Frames.{count_digits}
+use Rattle.discovery_spec.specs.Discovery.{discovered_with, capacity_of, found_after_with, rejected_after_with}
 use Rattle.reduction_spec.specs.Reduction.{reduction_refusal, reduced, reduced_after}
 use Rattle.listing.specs.declared.Listing.{Listing}
 use Rattle.listing.specs.declared.Listing.TheVariants.{Incomplete, Complete}
@@ -56,30 +57,49 @@ unfoldable pub kept_of : Result Run Refusal → List ℕ → List ℕ → List �
 kept_of (Err refusal) found kept = kept
 kept_of (Ok run) found kept = cond (is_completed run.end) (reduced_after (found_in run found) kept) kept
 
-module _ (s : Settings) (text : List ℕ) (resources : Resources) where
+-- with so many digits in a case count
+module _ (digits : ℕ) (s : Settings) (text : List ℕ) (resources : Resources) where
   -- the search's own answer
-  unfoldable pub searched : Result Run Refusal
-  searched = discovered s text (capacity_of resources.rejected resources.found resources.budget)
+  unfoldable pub searched_with : Result Run Refusal
+  searched_with = discovered_with digits s text (capacity_of resources.rejected resources.found resources.budget)
 
   -- the cache, the list and the second buffer on return
-  unfoldable pub rejected_left : List ℕ
-  rejected_left = rejected_after s text resources.rejected resources.found resources.budget
+  unfoldable pub rejected_left_with : List ℕ
+  rejected_left_with = rejected_after_with digits s text resources.rejected resources.found resources.budget
 
-  unfoldable pub found_left : List ℕ
-  found_left = found_after s text resources.rejected resources.found resources.budget
+  unfoldable pub found_left_with : List ℕ
+  found_left_with = found_after_with digits s text resources.rejected resources.found resources.budget
 
-  unfoldable pub kept_left : List ℕ
-  kept_left = kept_of searched found_left resources.kept
+  unfoldable pub kept_left_with : List ℕ
+  kept_left_with = kept_of searched_with found_left_with resources.kept
 
   -- the answer
-  unfoldable pub listing : Result Listing Refusal
-  listing = listing_of searched found_left (length resources.kept)
+  unfoldable pub listing_with : Result Listing Refusal
+  listing_with = listing_of searched_with found_left_with (length resources.kept)
 
+-- each of them as the call has it
+abbrev pub searched : Settings → List ℕ → Resources → Result Run Refusal
+searched = searched_with count_digits
+
+abbrev pub rejected_left : Settings → List ℕ → Resources → List ℕ
+rejected_left = rejected_left_with count_digits
+
+abbrev pub found_left : Settings → List ℕ → Resources → List ℕ
+found_left = found_left_with count_digits
+
+abbrev pub kept_left : Settings → List ℕ → Resources → List ℕ
+kept_left = kept_left_with count_digits
+
+abbrev pub listing : Settings → List ℕ → Resources → Result Listing Refusal
+listing = listing_with count_digits
+
+module _ (s : Settings) (text : List ℕ) (resources : Resources) where
   -- a call goes as written: its answer, what it leaves in the three buffers, and the number and
   -- value of the answer
   pub record GoesAsWritten (answer : Result Listing Refusal) (rejected found kept : List ℕ) : Type 0 where
-    pub answers : answer ≡ listing
-    pub leaves_rejected : rejected ≡ rejected_left
-    pub leaves_found : found ≡ found_left
-    pub leaves_kept : kept ≡ kept_left
-    pub numbered : Numbered (refusal_of searched found_left (length resources.kept)) (listing_number answer) (listing_value answer)
+    pub answers : answer ≡ listing s text resources
+    pub leaves_rejected : rejected ≡ rejected_left s text resources
+    pub leaves_found : found ≡ found_left s text resources
+    pub leaves_kept : kept ≡ kept_left s text resources
+    pub numbered :
+        Numbered (refusal_of (searched s text resources) (found_left s text resources) (length resources.kept)) (listing_number answer) (listing_value answer)

@@ -13,18 +13,18 @@ use Rattle.log_lines.specs.Reading.{count_in, next_phase, activities, activities
 use Rattle.log_lines.proofs.Opened.{opened}
 
 pub record LineExamples : Type 0 where
-  pub count : count_in (bytes "01FA00") ≡ Some 506
-  pub count_zero : count_in (bytes "000001") ≡ None
-  pub count_short : count_in (bytes "01F") ≡ None
+  pub count : count_in (bytes "000101FA00") ≡ Some 66042
+  pub count_zero : count_in (bytes "0000000001") ≡ None
+  pub count_short : count_in (bytes "000001F") ≡ None
   pub complete : fold next_phase Before (0 ∷ 2 ∷ 5 ∷ 1 ∷ []) ≡ Complete
   pub unended : fold next_phase Before (0 ∷ 2 ∷ 5 ∷ []) ≡ Inside
   pub ended_twice : fold next_phase Before (0 ∷ 1 ∷ 1 ∷ []) ≡ Misplaced
   pub started_twice : fold next_phase Before (0 ∷ 0 ∷ 1 ∷ []) ≡ Misplaced
-  pub read : activities_in 6 4 (first_line (bytes "000201\n0001")) ≡ Some (activities 10 false false)
-  pub unknown : activities_in 2 4 (first_line (bytes "000200\n")) ≡ Some (activities 10 true true)
-  pub odd : activities_in 6 4 (first_line (bytes "00020\n")) ≡ None
-  pub sound : line_checked 6 3 20 (first_line (bytes "01FA0001\n")) ≡ Ok (checked_line 29 506)
-  pub faulty : line_checked 6 3 20 (first_line (bytes "01FA0101\n")) ≡ Err (MisplacedEndpoint 3)
+  pub read : activities_in 6 8 (first_line (bytes "000201\n0000")) ≡ Some (activities 14 false false)
+  pub unknown : activities_in 2 8 (first_line (bytes "000200\n")) ≡ Some (activities 14 true true)
+  pub odd : activities_in 6 8 (first_line (bytes "00020\n")) ≡ None
+  pub sound : line_checked 6 3 20 (first_line (bytes "000101FA0001\n")) ≡ Ok (checked_line 33 66042)
+  pub faulty : line_checked 6 3 20 (first_line (bytes "000001FA0101\n")) ≡ Err (MisplacedEndpoint 3)
 
 pub line_examples : LineExamples
 unfolding opened

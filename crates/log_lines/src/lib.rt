@@ -7,7 +7,7 @@ pub mod line; // line.rt: checking a line
 pub const LINE_FEED: u8 = b'\n';
 
 // The digits of a case count, and of an activity code.
-pub const COUNT_DIGITS: usize = 4;
+pub const COUNT_DIGITS: usize = 8;
 
 pub const CODE_DIGITS: usize = 2;
 

@@ -21,7 +21,7 @@ pub record StepExamples : Type 0 where
   pub underfeeds_only : with_cases (count_row (counts 1 2 3 4)) (tokens (negsuc 0) (negsuc 0)) 10 ≡ count_row (counts 1 12 3 4)
   pub overfeeds_only : with_cases (count_row (counts 1 2 3 4)) (tokens (pos 1) (pos 0)) 10 ≡ count_row (counts 1 2 13 4)
   pub does_both : with_cases (count_row (counts 1 2 3 4)) (tokens (pos 1) (negsuc 0)) 10 ≡ count_row (counts 1 2 3 14)
-  pub arguments : place_and_text_checked 3 (bytes "00020001\n") (place 0x0001 0x0002) ≡ Ok (log_size 1 2)
+  pub arguments : place_and_text_checked 3 (bytes "000000020001\n") (place 0x0001 0x0002) ≡ Ok (log_size 1 2)
   pub arguments_setting : judged 3 1001 [] (place 0x0000 0x0002) ≡ Err InvalidSetting
   pub arguments_place : place_and_text_checked 3 [] (place 0x0000 0x0002) ≡ Err (InvalidPlace 0)
   pub arguments_text : place_and_text_checked 3 [] (place 0x0001 0x0002) ≡ Err EmptyLog

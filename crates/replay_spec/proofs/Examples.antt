@@ -51,7 +51,7 @@ pub record TraceExamples : Type 0 where
 
 -- frames of Figure 3's log
 abbrev figure3_log : List ℕ
-figure3_log = bytes "0031000301\n001F0002030401\n000C00020203040401\n0005000202020304040401\n"
+figure3_log = bytes "00000031000301\n0000001F0002030401\n0000000C00020203040401\n00000005000202020304040401\n"
 
 abbrev pub counts : ℕ → ℕ → ℕ → ℕ → CaseCounts
 counts fitting underfed overfed both = record { fitting = fitting; underfed = underfed; overfed = overfed; both = both }
@@ -65,7 +65,7 @@ pub record LogExamples : Type 0 where
   -- none overfeeds it
   pub counted : case_counts (place 0x0001 0x0004) (frames_of figure3_log) ≡ counts 31 17 49 0
   -- from a and b to c: c comes first in the first frame, and not at all in the second
-  pub both_counted : case_counts (place 0x000C 0x0010) (frames_of (bytes "00020004020301\n0001000201\n")) ≡ counts 0 0 1 2
+  pub both_counted : case_counts (place 0x000C 0x0010) (frames_of (bytes "000000020004020301\n00000001000201\n")) ≡ counts 0 0 1 2
   pub total : total_cases (frames_of figure3_log) ≡ 97
 
 -- a share of exactly T thousandths is not above T; the cases that do both count towards each verdict
@@ -92,9 +92,9 @@ pub record AnswerExamples : Type 0 where
   pub place_before_log : replayed 2 [] (place 0x0004 0x0001) ≡ Err (InvalidPlace 0)
   pub empty_log : replayed 2 [] (place 0x0001 0x0002) ≡ Err EmptyLog
   -- the whole log is checked, though only line 0 is replayed
-  pub whole_log : replayed 2 (bytes "00010001\n0000") (place 0x0001 0x0002) ≡ Err (MalformedFrame 1)
-  pub first_line : replayed 3 (bytes "00010001\n0001000201\n") (place 0x0001 0x0004) ≡ Ok (balances (pos 0) (pos 1))
-  pub threshold : judged 2 1001 (bytes "00010001\n") (place 0x0001 0x0002) ≡ Err InvalidSetting
+  pub whole_log : replayed 2 (bytes "000000010001\n00000000") (place 0x0001 0x0002) ≡ Err (MalformedFrame 1)
+  pub first_line : replayed 3 (bytes "000000010001\n00000001000201\n") (place 0x0001 0x0004) ≡ Ok (balances (pos 0) (pos 1))
+  pub threshold : judged 2 1001 (bytes "000000010001\n") (place 0x0001 0x0002) ≡ Err InvalidSetting
   pub judged_no_place : judged 2 0 [] (place 0x0001 0x0004) ≡ Err (InvalidPlace 0)
   pub judged_place : judged 5 175 figure3_log (place 0x0001 0x0004) ≡ Ok (judgement (counts 31 17 49 0) Both)
   pub judged_higher : judged 5 176 figure3_log (place 0x0001 0x0004) ≡ Ok (judgement (counts 31 17 49 0) Overfed)

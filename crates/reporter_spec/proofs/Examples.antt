@@ -28,14 +28,14 @@ pub record ProgramExamples : Type 0 where
   pub oversize : placelist (replicate 65537 48) ≡ bytes "FF0500000000\n"
   pub largest : placelist (replicate 65536 48) ≡ bytes "FF0100000000\n"
   pub no_input : placelist [] ≡ bytes "FF0100000000\n"
-  pub lower_case : placelist (bytes "0a01010000\n00010001\n") ≡ bytes "FF0100000000\n"
-  pub non_digit : placelist (bytes "02010100g0\n00010001\n") ≡ bytes "FF0100000000\n"
+  pub lower_case : placelist (bytes "0a01010000\n000000010001\n") ≡ bytes "FF0100000000\n"
+  pub non_digit : placelist (bytes "02010100g0\n000000010001\n") ≡ bytes "FF0100000000\n"
   pub no_line_feed : placelist (bytes "0201010000") ≡ bytes "FF0100000000\n"
-  pub too_long_a_frame : placelist (bytes "02010100000\n00010001\n") ≡ bytes "FF0100000000\n"
-  pub out_of_range : placelist (bytes "0203010000\n00010001\n") ≡ bytes "FF0100000000\n"
+  pub too_long_a_frame : placelist (bytes "02010100000\n000000010001\n") ≡ bytes "FF0100000000\n"
+  pub out_of_range : placelist (bytes "0203010000\n000000010001\n") ≡ bytes "FF0100000000\n"
   pub no_log : placelist (bytes "0201010000\n") ≡ bytes "FF0600000000\n"
-  pub second_line : placelist (bytes "0201010000\n00010001\n00010201\n") ≡ bytes "FF0300000001\n"
-  pub settings_in_order : placelist (bytes "02010203E8\n00010001\n") ≡ bytes "00010001\n00020001\n00010003\n00020003\n00010002\n00020002\n000000000600000006\n"
+  pub second_line : placelist (bytes "0201010000\n000000010001\n000000010201\n") ≡ bytes "FF0300000001\n"
+  pub settings_in_order : placelist (bytes "02010203E8\n000000010001\n") ≡ bytes "00010001\n00020001\n00010003\n00020003\n00010002\n00020002\n000000000600000006\n"
 
 pub program_examples : ProgramExamples
 unfolding opened

@@ -9,7 +9,8 @@ use Rattle.limits.specs.declared.Settings.{Settings}
 use Rattle.limits.specs.Refusals.{number, value, given, first_of, answer}
 use Rattle.hex_digits.specs.Digits.{is_digit, read_hex, write_hex, line_feed}
 use Rattle.discovery_spec.specs.Search.{Capacity, holding, end_number, is_completed, Progress, end_of, state_of}
-use Rattle.discovery_spec.specs.Discovery.{run, run_refusal}
+use Rattle.event_log_spec.specs.Frames.{count_digits}
+use Rattle.discovery_spec.specs.Discovery.{run_with, run_refusal_with}
 use Rattle.reduction_spec.specs.Reduction.{reduced_words}
 use Rattle.writer.specs.Writing.{list_text}
 
@@ -53,16 +54,6 @@ settings_in input =
 unfoldable pub log_in : List ℕ → List ℕ
 log_in input = drop (settings_digits + 1) input
 
--- first an input that is too long (oversize, line 0), then the form of the settings frame (number
--- 1), then what the search refuses
-unfoldable pub program_refusal : List ℕ → Option Refusal
-program_refusal input =
-    first_of
-    (given (ltb most_input (length input)) (TooLarge 0)
-    ∷ given (settings_malformed input) InvalidSetting
-    ∷ run_refusal (settings_in input) (log_in input)
-    ∷ [])
-
 -- the digits of an end, and of the FF and the number of a refusal; and those of replays, visits and
 -- a refusal's value
 abbrev pub end_digits : ℕ
@@ -96,6 +87,29 @@ reported_words p = cond (is_completed (end_of p)) (reduced_words (state_of p).fo
 unfoldable pub report : Progress → List ℕ
 report p = list_text (reported_words p) ++ result_line p
 
--- all that placelist writes for what it reads
-unfoldable pub placelist : List ℕ → List ℕ
-placelist input = answer refusal_line (program_refusal input) (report (run (settings_in input) (log_in input) capacity))
+-- with so many digits in a case count
+module _ (digits : ℕ) where
+  -- first an input that is too long (oversize, line 0), then the form of the settings frame (number
+  -- 1), then what the search refuses
+  unfoldable pub program_refusal_with : List ℕ → Option Refusal
+  program_refusal_with input =
+      first_of
+      (given (ltb most_input (length input)) (TooLarge 0)
+      ∷ given (settings_malformed input) InvalidSetting
+      ∷ run_refusal_with digits (settings_in input) (log_in input)
+      ∷ [])
+
+  -- all that placelist writes for what it reads
+  unfoldable pub placelist_with : List ℕ → List ℕ
+  placelist_with input =
+      answer
+      refusal_line
+      (program_refusal_with input)
+      (report (run_with digits (settings_in input) (log_in input) capacity))
+
+-- both as the program has them
+abbrev pub program_refusal : List ℕ → Option Refusal
+program_refusal = program_refusal_with count_digits
+
+abbrev pub placelist : List ℕ → List ℕ
+placelist = placelist_with count_digits

@@ -13,7 +13,7 @@ use Rattle.places.specs.Candidates.{candidates}
 use Rattle.event_log_spec.specs.Lines.{frames_of}
 use Rattle.replay_spec.specs.Judgement.{verdict}
 use Rattle.discovery_spec.specs.Search.{Progress, holding, state_of}
-use Rattle.discovery_spec.specs.Discovery.{run, run_refusal, summary, discovered}
+use Rattle.discovery_spec.specs.Discovery.{run, run_refusal, summary, discovered_with}
 use Rattle.discovery_spec.proofs.laws.LargerCache.{larger_cache}
 use Rattle.reporter_spec.proofs.Opened.{opened}
 use Rattle.worked_cases.specs.WorkedCases.{settings, single, LargeCache, WorkedCases}
@@ -28,7 +28,7 @@ unfolding opened
 at_16 = record { finds = refl; answers = refl }
 
 from_16 : {n : ℕ} → 16 ≤ n → LargeCache n
-unfolding discovered
+unfolding discovered_with
 from_16 more =
     record {
       finds = ap (λ (p : Progress). (state_of p).found) (same_run more) ∙ at_16.finds;

@@ -33,18 +33,18 @@ pub record RefusedWith (n v : ℕ) (c : Result LogSize Refusal) : Type 0 where
 
 -- M1 to M3, and M4 and M5
 abbrev pub sequence : List ℕ
-sequence = bytes "0001000203040501\n"
+sequence = bytes "00000001000203040501\n"
 
 abbrev pub repeated : List ℕ
-repeated = bytes "000100040202030301\n"
+repeated = bytes "0000000100040202030301\n"
 
 -- M6 and M11
 abbrev pub single : List ℕ
-single = bytes "0001000201\n"
+single = bytes "00000001000201\n"
 
 -- M7: the source's first log, and the case counts of the row's place
 abbrev pub variants : List ℕ
-variants = bytes "001F0002030401\n001B0003020401\n00170002030501\n00130003020501\n"
+variants = bytes "0000001F0002030401\n0000001B0003020401\n000000170002030501\n000000130003020501\n"
 
 abbrev pub variant_counts : CaseCounts
 variant_counts = record { fitting = 58; underfed = 0; overfed = 42; both = 0 }
@@ -99,9 +99,9 @@ pub record WorkedCases : Type 0 where
   pub m6 : replayed 3 single (place 0x0004 0x0004) ≡ with_balances (minus 1) (pos 0)
   pub m7 : M7
   pub m8 : RefusedWith 6 0 (checked 6 []) × RefusedWith 2 0 (checked 6 (bytes "\n"))
-  pub m9 : RefusedWith 2 0 (checked 6 (bytes "00000001\n")) × RefusedWith 3 0 (checked 2 single)
-  pub m10 : RefusedWith 4 0 (checked 6 (bytes "00010100\n"))
+  pub m9 : RefusedWith 2 0 (checked 6 (bytes "000000000001\n")) × RefusedWith 3 0 (checked 2 single)
+  pub m10 : RefusedWith 4 0 (checked 6 (bytes "000000010100\n"))
   pub m11 : M11
   pub m12 : M12
   pub program :
-      placelist (bytes "0303010000\n00010001\n") ≡ bytes "00010002\n00050002\n00040004\n000000000C0000000F\n"
+      placelist (bytes "0303010000\n000000010001\n") ≡ bytes "00010002\n00050002\n00040004\n000000000C0000000F\n"

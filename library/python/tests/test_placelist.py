@@ -32,15 +32,15 @@ from placelist import (  # noqa: E402
 )
 
 # M1, M4 and M11 of the written scope.
-STRAIGHT = b"0001000203040501\n"
-REPEATED = b"000100040202030301\n"
-SHORT = b"0001000201\n"
+STRAIGHT = b"00000001000203040501\n"
+REPEATED = b"0000000100040202030301\n"
+SHORT = b"00000001000201\n"
 SHORT_SETTINGS = Settings(activities=3, inputs=2, outputs=2, threshold=0)
 SHORT_FOUND = [Place(1, 2), Place(4, 2), Place(5, 6), Place(1, 4)]
 PLACE = Place(1, 2)
 
 # Every place fits at this threshold, so the list is soon full.
-FULL = b"10020203E8\n00010001\n"
+FULL = b"10020203E8\n000000010001\n"
 
 SONAME = placelist._SONAME
 
@@ -93,7 +93,7 @@ class Worked(unittest.TestCase):
                 self.assertEqual(replay(activities, log, place), Balances(*expected))
 
     def test_threshold(self) -> None:
-        log = b"001F0002030401\n001B0003020401\n00170002030501\n00130003020501\n"
+        log = b"0000001F0002030401\n0000001B0003020401\n000000170002030501\n000000130003020501\n"
         self.assertEqual(check(6, log), LogSize(frames=4, cases=100))
         for threshold, verdict in [(419, Verdict.OVERFED), (420, Verdict.FITTING)]:
             answer = judge(6, threshold, log, Place(0x0001, 0x0010))
@@ -131,12 +131,13 @@ class Worked(unittest.TestCase):
 
     def test_report(self) -> None:
         for input, output in [
-            (b"0303010000\n00010001\n", b"00010002\n00050002\n00040004\n000000000C0000000F\n"),
+            (b"0303010000\n000000010001\n",
+             b"00010002\n00050002\n00040004\n000000000C0000000F\n"),
             (b"", b"FF0100000000\n"),
-            (b"030301000\n00010001\n", b"FF0100000000\n"),
-            (b"1103010000\n00010001\n", b"FF0100000000\n"),
+            (b"030301000\n000000010001\n", b"FF0100000000\n"),
+            (b"1103010000\n000000010001\n", b"FF0100000000\n"),
             (b"0303010000\n", b"FF0600000000\n"),
-            (b"0303010000\n00010001\n00010201\n", b"FF0400000001\n"),
+            (b"0303010000\n000000010001\n000000010201\n", b"FF0400000001\n"),
             (b"0" * placelist.MOST_INPUT, b"FF0100000000\n"),
             (b"0" * (placelist.MOST_INPUT + 1), b"FF0500000000\n"),
         ]:
@@ -150,6 +151,39 @@ class Worked(unittest.TestCase):
 
     def test_docstrings(self) -> None:
         self.assertEqual(doctest.testmod(placelist).failed, 0)
+
+
+class CaseCounts(unittest.TestCase):
+    """Case counts of eight digits, and numbers of cases above 32 bits."""
+
+    def counted(self, log: bytes, fitting: int, overfed: int, threshold: int) -> None:
+        """That a log of cases 0, 2, 1, which fit a place, and of cases 0, 1, which overfeed it, has
+        so many of each, and that this is the least threshold at which the place is not overfed.
+        """
+        self.assertEqual(check(3, log).cases, fitting + overfed)
+        for at, verdict in [(threshold - 1, Verdict.OVERFED), (threshold, Verdict.FITTING)]:
+            answer = judge(3, at, log, Place(0x0001, 0x0004))
+            self.assertEqual(answer, Judgement(fitting, 0, overfed, 0, verdict))
+
+    def test_large_counts(self) -> None:
+        most, more, less = 2**32 - 1, 2**31, 2**31 - 1
+        for log, fitting, overfed, threshold in [
+            (b"0000FFFF000201\n000100000001\n", 65535, 65536, 501),
+            (b"FFFFFFFF000201\nFFFFFFFF0001\n", most, most, 500),
+            (b"FFFFFFFF000201\n" * 2 + b"FFFFFFFF0001\n" * 2, 2 * most, 2 * most, 500),
+            # of 2**32 - 1 cases one decides
+            (b"80000000000201\n7FFFFFFF0001\n", more, less, 500),
+            (b"7FFFFFFF000201\n800000000001\n", less, more, 501),
+        ]:
+            with self.subTest(log=log):
+                self.counted(log, fitting, overfed, threshold)
+
+    def test_large_counts_move_no_search(self) -> None:
+        few, many = SHORT, b"FFFFFFFF000201\n"
+        self.assertEqual(check(3, many), LogSize(1, 2**32 - 1))
+        self.assertEqual(search(SHORT_SETTINGS, many), search(SHORT_SETTINGS, few))
+        settings = b"0302020000\n"
+        self.assertEqual(report(settings + many), report(settings + few))
 
 
 class Refusals(unittest.TestCase):
@@ -180,28 +214,40 @@ class Refusals(unittest.TestCase):
             self.refused(1, 0, search, SHORT_SETTINGS._replace(threshold=threshold), b"")
 
     def test_malformed_frames(self) -> None:
-        self.log_refused(3, b"0001000201", 2)
-        self.log_refused(3, b"0001000201\n0001000201", 2, 1)
-        self.log_refused(3, b"0001000201\n\n", 2, 1)
-        self.log_refused(3, b"000100201\n", 2)
-        self.log_refused(3, b"000100\n", 2)
-        self.log_refused(3, b"0000000201\n", 2)
-        self.log_refused(16, b"000a000201\n", 2)
-        self.log_refused(3, b"0001000201\r\n", 2)
-        self.log_refused(3, b"0001000201\n\0", 2, 1)
+        self.log_refused(3, b"00000001000201", 2)
+        self.log_refused(3, b"00000001000201\n00000001000201", 2, 1)
+        self.log_refused(3, b"00000001000201\n\n", 2, 1)
+        self.log_refused(3, b"0000000100201\n", 2)
+        self.log_refused(3, b"0000000100\n", 2)
+        self.log_refused(3, b"00000001000\n", 2)
+        self.log_refused(3, b"0000000100010\n", 2)
+        self.log_refused(3, b"00000000000201\n", 2)
+        self.log_refused(16, b"0000000a000201\n", 2)
+        self.log_refused(3, b"00000001000201\r\n", 2)
+        self.log_refused(3, b"00000001000201\n\0", 2, 1)
+
+    def test_four_digit_case_counts(self) -> None:
+        """As version 1 read them: a frame of two or three activities is too short, and a longer one
+        does not begin with 00.
+        """
+        self.log_refused(3, b"00010001\n", 2)
+        self.log_refused(3, b"0001000201\n0001000201\n", 2)
+        self.log_refused(4, b"000100020301\n", 4)
+        self.log_refused(6, b"0001000203040501\n", 4)
 
     def test_activities_and_ends(self) -> None:
-        self.log_refused(3, b"0001000201\n0001000301\n", 3, 1)
+        self.log_refused(3, b"00000001000201\n00000001000301\n", 3, 1)
         self.log_refused(2, SHORT, 3)
-        self.log_refused(3, b"00010201\n", 4)
-        self.log_refused(3, b"00010002\n", 4)
-        self.log_refused(3, b"000100000201\n", 4)
-        self.log_refused(3, b"000100010201\n", 4)
+        self.log_refused(3, b"000000010201\n", 4)
+        self.log_refused(3, b"000000010002\n", 4)
+        self.log_refused(3, b"0000000100000201\n", 4)
+        self.log_refused(3, b"0000000100010201\n", 4)
 
     def test_sizes(self) -> None:
         def frame(activities: int) -> bytes:
-            return b"000100" + b"02" * (activities - 2) + b"01\n"
+            return b"0000000100" + b"02" * (activities - 2) + b"01\n"
 
+        self.assertEqual(check(3, b"000000010001\n"), LogSize(1, 1))
         self.assertEqual(len(frame(254)), placelist.MOST_FRAME_BYTES)
         self.assertEqual(check(3, frame(254)), LogSize(1, 1))
         self.log_refused(3, frame(255), 5)
@@ -263,7 +309,7 @@ class Arguments(unittest.TestCase):
         for log in (SHORT, bytearray(SHORT), memoryview(SHORT), spread):
             self.assertEqual(check(3, log), LogSize(1, 1))
             self.assertEqual(search(SHORT_SETTINGS, log).found, SHORT_FOUND)
-        input = bytearray(b"0303010000\n00010001\n")
+        input = bytearray(b"0303010000\n000000010001\n")
         self.assertEqual(report(input), report(bytes(input)))
 
     def test_bytes_with_a_false_length(self) -> None:
@@ -299,10 +345,10 @@ class Arguments(unittest.TestCase):
         for activities in (2, 3, 4):
             sets = 2**activities - 1
             settings = Settings(activities, activities, activities, 1000)
-            run = search(settings, b"00010001\n", room=2**32 - 1)
+            run = search(settings, b"000000010001\n", room=2**32 - 1)
             self.assertEqual((run.end, len(run.found)), (End.COMPLETE, sets * sets))
             small = settings._replace(inputs=1, outputs=2)
-            run = search(small, b"00010001\n", room=2**32 - 1)
+            run = search(small, b"000000010001\n", room=2**32 - 1)
             pairs = activities * (activities + 1) // 2
             self.assertEqual((run.end, len(run.found)), (End.COMPLETE, activities * pairs))
 

@@ -34,9 +34,9 @@ impl fmt::Display for Version {
 /// The size of a log.
 #[derive(Debug, Clone, Copy, PartialEq, Eq)]
 pub struct LogSize {
-    /// The number of frames.
+    /// The number of frames, at most 4,096.
     pub frames: u64,
-    /// The sum of all case counts.
+    /// The sum of all case counts, at most 17,592,186,040,320.
     pub cases: u64,
 }
 
@@ -77,8 +77,8 @@ impl Verdict {
     }
 }
 
-/// What judging a place answers: four numbers of cases, which add up to all cases of the log, and
-/// the verdict.
+/// What judging a place answers: four numbers of cases, which add up to all cases of the log, at
+/// most 17,592,186,040,320, and the verdict.
 #[derive(Debug, Clone, Copy, PartialEq, Eq)]
 pub struct Judgement {
     /// Cases that fit.

@@ -7,7 +7,7 @@
 //! this crate hands arguments and answers over and does nothing else.
 //!
 //! An activity is a code from 0 to 15: 0 is the start of a case, 1 its end. A set is a `u16`, with
-//! the bit `1 << code` for each activity. A log is text, a frame for each line: four hexadecimal
+//! the bit `1 << code` for each activity. A log is text, a frame for each line: eight hexadecimal
 //! digits of how many cases went this way, two for each activity, a line feed. Lines count from 0.
 //!
 //! Nothing is allocated: a caller lends the buffers. After a refusal they are as they were, and in
@@ -17,7 +17,7 @@
 //! use placelist::{check, judge, reduce, search, write};
 //! use placelist::{End, Place, Settings, Verdict, LINE_BYTES};
 //!
-//! let log = b"0001000201\n"; // one case: 0, 2, 1
+//! let log = b"00000001000201\n"; // one case: 0, 2, 1
 //! let size = check(3, log)?;
 //! assert_eq!((size.frames, size.cases), (1, 1));
 //!
@@ -104,7 +104,7 @@ pub fn check(activities: u8, text: &[u8]) -> Result<LogSize, Refusal> {
 /// use placelist::{replay, Place};
 ///
 /// let place = Place { inputs: 0x0004, outputs: 0x0030 };
-/// let balances = replay(6, b"000100040202030301\n", place)?;
+/// let balances = replay(6, b"0000000100040202030301\n", place)?;
 /// assert_eq!((balances.least, balances.last), (-1, 1));
 /// # Ok::<(), placelist::Refusal>(())
 /// ```
@@ -285,7 +285,7 @@ pub fn write(words: &[u32], text: &mut [u8]) -> Result<usize, Refusal> {
 /// use placelist::{report, MOST_OUTPUT};
 ///
 /// let mut output = [0; MOST_OUTPUT];
-/// let bytes = report(b"0303010000\n00010001\n", &mut output)?;
+/// let bytes = report(b"0303010000\n000000010001\n", &mut output)?;
 /// assert_eq!(&output[..bytes], b"00010002\n00050002\n00040004\n000000000C0000000F\n");
 /// # Ok::<(), placelist::Refusal>(())
 /// ```

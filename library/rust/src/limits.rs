@@ -12,7 +12,7 @@ pub const MOST_FRAMES: usize = 4096;
 /// The most activities of a frame.
 pub const MOST_FRAME_ACTIVITIES: usize = 254;
 /// The bytes of the longest frame: a case count, activities, a line feed.
-pub const MOST_FRAME_BYTES: usize = 4 + 2 * MOST_FRAME_ACTIVITIES + 1;
+pub const MOST_FRAME_BYTES: usize = 8 + 2 * MOST_FRAME_ACTIVITIES + 1;
 /// The bytes of the longest log.
 pub const MOST_LOG_BYTES: usize = MOST_FRAMES * MOST_FRAME_BYTES;
 

@@ -15,8 +15,8 @@ pub enum RefusalKind {
     /// A setting is out of its range: activities 2 to 16, most inputs and outputs 1 to
     /// `activities`, threshold 0 to 1000. The value is 0.
     InvalidSetting = 1,
-    /// A line has no line feed, an odd number of digits or fewer than 8, a byte that is no digit,
-    /// or a case count of 0000. The value is the line.
+    /// A line has no line feed, an odd number of digits or fewer than 12, a byte that is no digit,
+    /// or a case count of 00000000. The value is the line.
     MalformedFrame = 2,
     /// An activity code is the bound or more. The value is the line.
     UnknownActivity = 3,
@@ -64,7 +64,7 @@ impl Refusal {
     /// ```
     /// use placelist::{check, RefusalKind};
     ///
-    /// let refusal = check(3, b"0001000201\n00010201\n").unwrap_err();
+    /// let refusal = check(3, b"00000001000201\n000000010201\n").unwrap_err();
     /// assert_eq!(refusal.kind, RefusalKind::MisplacedEndpoint);
     /// assert_eq!((refusal.number(), refusal.value), (4, 1));
     /// ```

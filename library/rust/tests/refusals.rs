@@ -4,7 +4,7 @@
 use placelist::RefusalKind::*;
 use placelist::*;
 
-const LOG: &[u8] = b"0001000201\n";
+const LOG: &[u8] = b"00000001000201\n";
 const PLACE: Place = Place {
     inputs: 0x0001,
     outputs: 0x0002,
@@ -47,7 +47,7 @@ fn log_refused(activities: u8, text: &[u8], kind: RefusalKind, value: u64) {
 
 /// A frame of that many activities.
 fn frame(activities: usize) -> Vec<u8> {
-    let mut text = b"000100".to_vec();
+    let mut text = b"0000000100".to_vec();
     text.extend(b"02".repeat(activities - 2));
     text.extend(b"01\n");
     text
@@ -93,23 +93,35 @@ fn settings() {
 
 #[test]
 fn malformed_frames() {
-    log_refused(3, b"0001000201", MalformedFrame, 0);
-    log_refused(3, b"0001000201\n0001000201", MalformedFrame, 1);
-    log_refused(3, b"0001000201\n\n", MalformedFrame, 1);
-    log_refused(3, b"000100201\n", MalformedFrame, 0);
-    log_refused(3, b"000100\n", MalformedFrame, 0);
-    log_refused(3, b"0000000201\n", MalformedFrame, 0);
-    log_refused(16, b"000a000201\n", MalformedFrame, 0);
-    log_refused(3, b"0001000201\r\n", MalformedFrame, 0);
+    log_refused(3, b"00000001000201", MalformedFrame, 0);
+    log_refused(3, b"00000001000201\n00000001000201", MalformedFrame, 1);
+    log_refused(3, b"00000001000201\n\n", MalformedFrame, 1);
+    log_refused(3, b"0000000100201\n", MalformedFrame, 0);
+    log_refused(3, b"0000000100\n", MalformedFrame, 0);
+    log_refused(3, b"00000001000\n", MalformedFrame, 0);
+    log_refused(3, b"0000000100010\n", MalformedFrame, 0);
+    log_refused(3, b"00000000000201\n", MalformedFrame, 0);
+    log_refused(16, b"0000000a000201\n", MalformedFrame, 0);
+    log_refused(3, b"00000001000201\r\n", MalformedFrame, 0);
+}
+
+/// Case counts of four digits, as version 1 read them: a frame of two or three activities is too
+/// short, and a longer one does not begin with 00.
+#[test]
+fn four_digit_case_counts() {
+    log_refused(3, b"00010001\n", MalformedFrame, 0);
+    log_refused(3, b"0001000201\n0001000201\n", MalformedFrame, 0);
+    log_refused(4, b"000100020301\n", MisplacedEndpoint, 0);
+    log_refused(6, b"0001000203040501\n", MisplacedEndpoint, 0);
 }
 
 #[test]
 fn activities_and_ends() {
-    log_refused(3, b"0001000201\n0001000301\n", UnknownActivity, 1);
-    log_refused(3, b"00010201\n", MisplacedEndpoint, 0);
-    log_refused(3, b"00010002\n", MisplacedEndpoint, 0);
-    log_refused(3, b"000100000201\n", MisplacedEndpoint, 0);
-    log_refused(3, b"000100010201\n", MisplacedEndpoint, 0);
+    log_refused(3, b"00000001000201\n00000001000301\n", UnknownActivity, 1);
+    log_refused(3, b"000000010201\n", MisplacedEndpoint, 0);
+    log_refused(3, b"000000010002\n", MisplacedEndpoint, 0);
+    log_refused(3, b"0000000100000201\n", MisplacedEndpoint, 0);
+    log_refused(3, b"0000000100010201\n", MisplacedEndpoint, 0);
 }
 
 #[test]
@@ -121,6 +133,7 @@ fn sizes() {
         cases: 1,
     };
     assert_eq!(check(3, &most), Ok(one));
+    assert_eq!(check(3, b"000000010001\n"), Ok(one));
     log_refused(3, &frame(MOST_FRAME_ACTIVITIES + 1), TooLarge, 0);
     let full = LOG.repeat(MOST_FRAMES);
     let all = LogSize {
@@ -204,11 +217,11 @@ fn written(input: &[u8]) -> Vec<u8> {
 #[test]
 fn program_answers_its_refusals() {
     assert_eq!(written(b""), b"FF0100000000\n");
-    assert_eq!(written(b"030301000\n00010001\n"), b"FF0100000000\n");
-    assert_eq!(written(b"1103010000\n00010001\n"), b"FF0100000000\n");
+    assert_eq!(written(b"030301000\n000000010001\n"), b"FF0100000000\n");
+    assert_eq!(written(b"1103010000\n000000010001\n"), b"FF0100000000\n");
     assert_eq!(written(b"0303010000\n"), b"FF0600000000\n");
     assert_eq!(
-        written(b"0303010000\n00010001\n00010201\n"),
+        written(b"0303010000\n000000010001\n000000010201\n"),
         b"FF0400000001\n"
     );
     let longest = [b'0'; MOST_INPUT + 1];

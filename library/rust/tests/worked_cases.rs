@@ -3,11 +3,11 @@
 use placelist::*;
 
 /// The frames of M1 and M4.
-const STRAIGHT: &[u8] = b"0001000203040501\n";
-const REPEATED: &[u8] = b"000100040202030301\n";
+const STRAIGHT: &[u8] = b"00000001000203040501\n";
+const REPEATED: &[u8] = b"0000000100040202030301\n";
 
 /// M11: one case that runs 0, 2, 1.
-const SHORT: &[u8] = b"0001000201\n";
+const SHORT: &[u8] = b"00000001000201\n";
 const SHORT_SETTINGS: Settings = Settings {
     activities: 3,
     inputs: 2,
@@ -50,7 +50,7 @@ fn m1_to_m6_balances() {
 
 #[test]
 fn m7_threshold() {
-    let log = b"001F0002030401\n001B0003020401\n00170002030501\n00130003020501\n";
+    let log = b"0000001F0002030401\n0000001B0003020401\n000000170002030501\n000000130003020501\n";
     let size = LogSize {
         frames: 4,
         cases: 100,
@@ -77,9 +77,9 @@ fn m8_to_m10_refusals() {
     let number = |activities, text| check(activities, text).unwrap_err().number();
     assert_eq!(number(6, b""), 6);
     assert_eq!(number(6, b"\n"), 2);
-    assert_eq!(number(6, b"00000001\n"), 2);
+    assert_eq!(number(6, b"000000000001\n"), 2);
     assert_eq!(number(2, SHORT), 3);
-    assert_eq!(number(6, b"00010100\n"), 4);
+    assert_eq!(number(6, b"000000010100\n"), 4);
 }
 
 #[test]
@@ -160,7 +160,7 @@ fn m12_reduction() {
 fn program() {
     let mut output = [b'-'; MOST_OUTPUT + 1];
     let expected = b"00010002\n00050002\n00040004\n000000000C0000000F\n";
-    let bytes = report(b"0303010000\n00010001\n", &mut output).unwrap();
+    let bytes = report(b"0303010000\n000000010001\n", &mut output).unwrap();
     assert_eq!(&output[..bytes], expected);
     assert!(output[bytes..].iter().all(|&byte| byte == b'-'));
 }

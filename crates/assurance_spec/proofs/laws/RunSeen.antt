@@ -15,12 +15,12 @@ use Rattle.limits.specs.declared.Settings.{Settings}
 use Rattle.limits.specs.Refusals.{answered as answered_by}
 use Rattle.discovery_spec.specs.declared.Run.{Run}
 use Rattle.discovery_spec.specs.Search.{Capacity, is_completed}
-use Rattle.discovery_spec.specs.Discovery.{run, summary, run_refusal, discovered, capacity_of, found_after}
+use Rattle.discovery_spec.specs.Discovery.{run, summary, run_refusal, discovered_with, capacity_of, found_after_with}
 use Rattle.discovery_spec.specs.TwoRuns.{found_by, AtLeast}
 use Rattle.discovery_spec.proofs.laws.Ends.{end_completed}
 use Rattle.reduction_spec.specs.Reduction.{reduced, reduced_after}
 use Rattle.listing.specs.declared.Listing.TheVariants.{Complete}
-use Rattle.listing.specs.Listing.{Resources, found_in, listing_of, kept_of, searched, found_left, kept_left, listing}
+use Rattle.listing.specs.Listing.{Resources, found_in, listing_of, kept_of, searched_with, found_left, found_left_with, kept_left, kept_left_with, listing, listing_with}
 use Rattle.assurance_spec.specs.Demand3.{run_of, Completed, AtLeastAsLarge}
 
 -- the capacity of a run that is given these buffers and this budget
@@ -52,19 +52,19 @@ module _ (s : Settings) (text : List ℕ) (resources : Resources) where
   listed_words = found_in made_run (found_left s text resources)
 
   pub answered : (r : Run) → run_of (listing s text resources) ≡ Some r → (run_refusal s text ≡ None) × (r ≡ made_run)
-  unfolding listing searched discovered
+  unfolding listing_with searched_with discovered_with
   answered r = run_own (run_refusal s text) made_run r (found_left s text resources) (length resources.kept)
 
   module _ (passes : run_refusal s text ≡ None) where
     pub listed_found : listed_words ≡ found_by s text (room_of resources)
-    unfolding found_in found_left found_after found_by summary
+    unfolding found_in found_left_with found_after_with found_by summary
     listed_found = rw passes (take_overwritten resources.found (found_by s text (room_of resources)))
 
     module _ (complete : Completed made_run) where
       pub listing_complete : listing s text resources ≡ Ok (Complete made_run (reduced listed_words (length resources.kept)))
-      unfolding listing searched discovered listing_of
+      unfolding listing_with searched_with discovered_with listing_of
       listing_complete = rw (passes, end_completed made_run.end complete)
 
       pub kept_reduced : kept_left s text resources ≡ reduced_after listed_words resources.kept
-      unfolding kept_left searched discovered kept_of
+      unfolding kept_left_with searched_with discovered_with kept_of
       kept_reduced = rw (passes, end_completed made_run.end complete)

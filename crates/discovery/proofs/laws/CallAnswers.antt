@@ -30,7 +30,7 @@ use Rattle.discovery_spec.specs.declared.End.{End}
 use Rattle.discovery_spec.specs.declared.End.TheVariants.{Completed}
 use Rattle.discovery_spec.specs.declared.Run.{Run}
 use Rattle.discovery_spec.specs.Search.{Capacity, Progress, going, stopped, start, step, search, end_of}
-use Rattle.discovery_spec.specs.Discovery.{run, run_refusal, discovered, summary, replays_in, capacity_of, found_after, rejected_after}
+use Rattle.discovery_spec.specs.Discovery.{run, run_with, run_refusal, discovered, discovered_with, summary, replays_in, capacity_of, found_after, found_after_with, rejected_after, rejected_after_with}
 use Rattle.discovery_spec.proofs.laws.AnswerLaws.{replays_within}
 use Rattle.discovery_spec.proofs.laws.CallChecks.{NotRefused}
 use Rattle.candidate_visit.specs.declared.RunState.{RunState}
@@ -92,7 +92,7 @@ module _ (s : Settings) (text : List ℕ) (rejected found : List ℕ) (budget : 
       → rejected_left ≡ rejected_after s text rejected found budget
       → found_left ≡ found_after s text rejected found budget
       → Answers d rejected_left found_left
-  unfolding capacity_of discovered
+  unfolding capacity_of discovered_with
   answers {d} e cache list =
       record {
         answer = e;
@@ -105,7 +105,7 @@ module _ (s : Settings) (text : List ℕ) (rejected found : List ℕ) (budget : 
   -- of a call that is refused
   pub refused_answers : {d : Result Run Refusal} (r : Refusal) → d ≡ Err r → run_refusal s text ≡ Some r
       → Answers d rejected found
-  unfolding discovered rejected_after found_after
+  unfolding discovered_with rejected_after_with found_after_with
   refused_answers r given e = answers (rw (given, e)) (rw e) (rw e)
 
   -- of one that is not
@@ -131,7 +131,7 @@ module _ (s : Settings) (text : List ℕ) (rejected found : List ℕ) (budget : 
             (candidates_from s (place 1 1))
 
         same_run : carried ≡ made
-        unfolding run search state_in start
+        unfolding run_with search state_in start
         same_run = rw (from_the_first s ranges, rejected_same, found_same)
 
         pub run_answers : {answer : Result (Unit {0}) End} {after : RunState} → Carries carried started answer after → {end : End}
@@ -150,7 +150,7 @@ module _ (s : Settings) (text : List ℕ) (rejected found : List ℕ) (budget : 
             )
             after.rejected.now
             after.found.now
-        unfolding discovered rejected_after found_after summary
+        unfolding discovered_with rejected_after_with found_after_with summary
         run_answers c ended_so =
             let all = rw same_run at c in
             let left = all.leaves in

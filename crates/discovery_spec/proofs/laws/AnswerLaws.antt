@@ -24,7 +24,7 @@ use Rattle.discovery_spec.specs.declared.End.TheVariants.{Completed, BudgetSpent
 use Rattle.discovery_spec.specs.declared.Run.{Run}
 use Rattle.discovery_spec.specs.Rejected.{rejected_word}
 use Rattle.discovery_spec.specs.Search.{end_number, Capacity, State, Progress, going, stopped, start, visited, replayed_once, with_found, with_rejected, step, search, state_of}
-use Rattle.discovery_spec.specs.Discovery.{run, summary, run_refusal, discovered, replays_in}
+use Rattle.discovery_spec.specs.Discovery.{run, run_with, summary, run_refusal, discovered, discovered_with, replays_in}
 use Rattle.discovery_spec.proofs.laws.Outcomes.{ReplayOutcome, spent, list_full, accepted, dropped, cached, Outcome, passed, known, replayed, step_outcome}
 use Rattle.discovery_spec.proofs.laws.RunCounts.{run_counts}
 
@@ -78,7 +78,7 @@ pub record AnswerWithin (s : Settings) (room : Capacity) (r : Run) : Type 0 wher
   pub visits_candidates : r.visits ≤ length (candidates s)
 
 pub answer_within : (s : Settings) (text : List ℕ) (room : Capacity) (r : Run) → discovered s text room ≡ Ok r → AnswerWithin s room r
-unfolding discovered run summary
+unfolding discovered_with run_with summary
 answer_within s text room r e =
     let judged = verdict s.threshold (frames_of text) in
     let fits = search_fits judged room (candidates s) in

@@ -23,7 +23,7 @@ use Rattle.event_log_spec.specs.Lines.{frames_of}
 use Rattle.replay_spec.specs.Judgement.{verdict_where, verdict_of, verdict}
 use Rattle.replay_spec.proofs.laws.Monotone.{log_monotone}
 use Rattle.discovery_spec.specs.Search.{Capacity}
-use Rattle.discovery_spec.specs.Discovery.{run, run_refusal}
+use Rattle.discovery_spec.specs.Discovery.{run_with, run_refusal}
 use Rattle.discovery_spec.specs.TwoRuns.{fits, fitting_candidates, found_by, Completes, FoundAll, AllFitting, AtLeast, BothComplete, TwoRuns}
 use Rattle.discovery_spec.proofs.laws.Rulings.{is_underfed, is_overfed}
 use Rattle.discovery_spec.proofs.laws.Soundness.{MonotoneVerdict}
@@ -85,12 +85,12 @@ module _ (s : Settings) (text : List ℕ) where
         }
 
     completed_all : (room : Capacity) → Completes s text room → FoundAll s text room
-    unfolding Completes FoundAll found_by fitting_candidates fits run
+    unfolding Completes FoundAll found_by fitting_candidates fits run_with
     completed_all room = found_all (verdict s.threshold (frames_of text)) a.monotone room storable
 
     module _ (first second : Capacity) (more : AtLeast first second) where
       both_complete : Completes s text first → BothComplete s text first second
-      unfolding Completes run
+      unfolding Completes run_with
       both_complete complete =
           let too = second_completes (verdict s.threshold (frames_of text)) a.monotone first second more storable complete in
           record {
@@ -102,7 +102,7 @@ module _ (s : Settings) (text : List ℕ) where
           }
 
       claim : TwoRuns s text first second
-      unfolding Completes found_by fitting_candidates fits run
+      unfolding Completes found_by fitting_candidates fits run_with
       claim =
           record {
             beginning = first_begins (verdict s.threshold (frames_of text)) a.monotone first second more storable;

@@ -17,12 +17,12 @@ use Rattle.limits.proofs.laws.SettingsRanges.{InRange, in_range}
 use Rattle.event_log_spec.specs.declared.LogSize.{LogSize}
 use Rattle.event_log_spec.specs.Frames.{WrittenLog}
 use Rattle.event_log_spec.specs.Lines.{frames_of}
-use Rattle.event_log_spec.specs.Checking.{log_refusal, checked}
+use Rattle.event_log_spec.specs.Checking.{log_refusal, log_refusal_with, checked, checked_with}
 use Rattle.limits.proofs.laws.FirstOf.{given_none}
 use Rattle.limits.proofs.laws.AnswerNumbers.{answer_refused, answer_accepted}
 use Rattle.event_log_spec.proofs.laws.LogChecks.{log_passes}
 use Rattle.event_log_spec.proofs.laws.Written.{text_written}
-use Rattle.discovery_spec.specs.Discovery.{run_refusal}
+use Rattle.discovery_spec.specs.Discovery.{run_refusal, run_refusal_with}
 
 module _ (s : Settings) (text : List ℕ) where
   -- what is known where the call is not refused
@@ -31,7 +31,7 @@ module _ (s : Settings) (text : List ℕ) where
     pub log : WrittenLog s.activities (frames_of text) text
 
   pub not_refused : run_refusal s text ≡ None → NotRefused
-  unfolding run_refusal settings_fault
+  unfolding run_refusal_with settings_fault
   not_refused e =
       let passes = (log_passes s.activities text (settings_fault s) None).0 e in
       record {
@@ -41,19 +41,19 @@ module _ (s : Settings) (text : List ℕ) where
 
   -- by the settings
   pub settings_refused : settings_in_range s ≡ false → run_refusal s text ≡ Some InvalidSetting
-  unfolding run_refusal log_refusal first_refusal settings_fault
+  unfolding run_refusal_with log_refusal_with first_refusal settings_fault
   settings_refused e = rw e
 
   module _ (settings : settings_in_range s ≡ true) where
     log_decides : run_refusal s text ≡ log_refusal (bound_fault s.activities) None s.activities text
-    unfolding run_refusal settings_fault bound_fault
+    unfolding run_refusal_with settings_fault bound_fault
     log_decides = rw (settings, (in_range s settings).bound)
 
     -- by the log
     pub log_refused : (r : Refusal) → checked s.activities text ≡ Err r → run_refusal s text ≡ Some r
-    unfolding checked
+    unfolding checked_with
     log_refused r e = log_decides ∙ (answer_refused _ _ r).0 e
 
     pub log_accepted : (size : LogSize) → checked s.activities text ≡ Ok size → run_refusal s text ≡ None
-    unfolding checked
+    unfolding checked_with
     log_accepted size e = log_decides ∙ (answer_accepted _ _ size e).0

@@ -11,7 +11,7 @@ use mathlib.Core.List.{List, ◌∷◌, ◌++◌, flat_map, append_assoc}
 use lib.ListN.{length, take, drop, length-append, length-drop}
 use lib.Seq.{take_at, drop_at, drop-drop, drop-append-add}
 use Rattle.hex_digits.specs.Digits.{write_hex, line_feed}
-use Rattle.event_log_spec.specs.Frames.{Frame, count_digits, write_frame}
+use Rattle.event_log_spec.specs.Frames.{Frame, count_digits, write_frame, written_with}
 use Rattle.event_log.specs.Stepping.{trace_end}
 use Rattle.hex_digits.proofs.laws.DigitLaws.{length_write}
 use Rattle.event_log_spec.proofs.laws.PairLaws.{length_pairs}
@@ -26,7 +26,7 @@ module _ (text : List ℕ) (at : ℕ) (f : Frame) (rest : List ℕ) (e : drop at
   start = at + count_digits
 
   in_parts : drop at text ≡ write_hex count_digits f.cases ++ (pairs ++ (line_feed ∷ rest))
-  unfolding write_frame
+  unfolding written_with
   in_parts = e ∙ simp append_assoc
 
   pub frame_count : 1 ≤ f.cases → f.cases < 16 ^ count_digits → count_in (drop at text) ≡ Some f.cases

@@ -6,7 +6,7 @@
 use Rattle.std.specs.Prelude.{Some, is_some, true}
 use Rattle.std.proofs.lemmas.Option.{same_Some}
 use Rattle.log_lines.specs.Reading.{count_in}
-use Prim.Native.Nat.{ℕ, ◌+◌, ◌-◌, ◌*◌, ◌^◌, ◌≤◌, ◌<◌}
+use Prim.Native.Nat.{ℕ, ◌+◌, ◌*◌, ◌^◌, ◌≤◌, ◌<◌}
 use native.Mathlib.Omega.{arith}
 use mathlib.Core.Path.{◌≡◌, refl, sym, ap, ap₂, ◌∙◌}
 use mathlib.Core.List.{List, [], ◌∷◌, ◌++◌, flat_map, append-nil, append_assoc}
@@ -19,7 +19,7 @@ use Rattle.foundation.specs.Buffers.{overwrite}
 use Rattle.foundation.proofs.laws.Buffers.{overwrite_more, take_overwritten}
 use Rattle.hex_digits.specs.Digits.{write_hex, line_feed}
 use Rattle.hex_digits.proofs.laws.DigitLaws.{length_write}
-use Rattle.event_log_spec.specs.Frames.{Frame, FrameUnder, WrittenLog, count_digits, most_frames, longest_frame, write_frame}
+use Rattle.event_log_spec.specs.Frames.{Frame, FrameUnder, WrittenLog, count_digits, most_frames, longest_frame, write_frame, written_with}
 use Rattle.event_log_spec.specs.Lines.{frames_of}
 use Rattle.event_log_spec.proofs.laws.PairLaws.{length_pairs}
 use Rattle.event_log.specs.Stepping.{trace_end}
@@ -28,8 +28,8 @@ use Rattle.event_log.specs.FrameIndex.{frame_index, Indexed}
 use Rattle.event_log.proofs.laws.FrameAt.{frame_count, frame_end, frame_inside, frame_next}
 
 -- the bytes of a frame, and of frames
-frame_bytes : (f : Frame) → length (write_frame f) ≡ count_digits + 2 * length f.trace + 1
-unfolding write_frame
+pub frame_bytes : (f : Frame) → length (write_frame f) ≡ count_digits + 2 * length f.trace + 1
+unfolding written_with
 frame_bytes f =
     let pairs = flat_map (write_hex 2) f.trace in
     omega (
@@ -98,9 +98,6 @@ module _ (text : List ℕ) (at : ℕ) (f : FramesLeft text at) where
     pub end_inside : trace_end text (at + count_digits) < length text
     end_inside = frame_inside text at first_left.first (flat_map write_frame first_left.later) first_left.written
 
-    pub digits_fit : trace_end text (at + count_digits) - (at + count_digits) < 2 ^ 9
-    digits_fit = omega (arith, end, first_left.under.short)
-
     first_count : count_in (drop at text) ≡ Some first_left.first.cases
     first_count =
         frame_count
@@ -118,7 +115,7 @@ module _ (text : List ℕ) (at : ℕ) (f : FramesLeft text at) where
     same_count : (cases : ℕ) → count_in (drop at text) ≡ Some cases → cases ≡ first_left.first.cases
     same_count cases e = same_Some cases first_left.first.cases (sym e ∙ first_count)
 
-    pub cases_fit : (cases : ℕ) → count_in (drop at text) ≡ Some cases → cases < 2 ^ 16
+    pub cases_fit : (cases : ℕ) → count_in (drop at text) ≡ Some cases → cases < 2 ^ 32
     cases_fit cases e = omega (arith, same_count cases e, first_left.under.countable)
 
   pub none_left : length text ≤ at → length f.left ≡ 0
@@ -155,15 +152,13 @@ module _ (text : List ℕ) (before : List IndexedFrame) (log : WrittenLog most_a
   module _ (index : List IndexedFrame) (count at : ℕ) (s : Stored text before index count at) where
     -- one turn stores the entry of the frame at the index
     pub one_stored : (cases : ℕ) → at < length text → most_frames ≤ length index → count_in (drop at text) ≡ Some cases
-        → let start = at + count_digits in
-        let end = trace_end text start in
-        Stored text before (set index count (record { start = start; digits = end - start; cases = cases })) (count + 1) (end + 1)
+        → let end = trace_end text (at + count_digits) in
+        Stored text before (set index count (record { end = end; cases = cases })) (count + 1) (end + 1)
     unfolding frame_index
     one_stored cases more wide e =
         let f = first_left text at s.frames more in
-        let start = at + count_digits in
-        let entry : IndexedFrame = record { start = start; digits = trace_end text start - start; cases = cases } in
-        let digits : trace_end text start - start ≡ 2 * length f.first.trace = omega (arith, end text at s.frames more) in
+        let next = trace_end text (at + count_digits) in
+        let entry : IndexedFrame = record { end = next; cases = cases } in
         let together : s.done ++ frame_index at (f.first ∷ f.later) ≡ frame_index 0 (frames_of text) = rw f.parts at s.together in
         record {
           frames =
@@ -179,8 +174,8 @@ module _ (text : List ℕ) (before : List IndexedFrame) (log : WrittenLog most_a
               ap₂ (λ (buffer : List IndexedFrame) (n : ℕ). set buffer n entry) s.stored (sym s.measured)
               ∙ overwrite_more before s.done entry (omega (arith, s.measured, s.counted, ap length f.parts, log.few_frames, wide, ap length s.stored));
           together =
-              append_assoc s.done (entry ∷ []) (frame_index (trace_end text start + 1) f.later)
-              ∙ rw (digits, end text at s.frames more, same_count text at s.frames more cases e) together;
+              append_assoc s.done (entry ∷ []) (frame_index (next + 1) f.later)
+              ∙ rw (end text at s.frames more, same_count text at s.frames more cases e) together;
         }
 
     pub all_stored : length text ≤ at → index ≡ overwrite (frame_index 0 (frames_of text)) before
@@ -190,7 +185,7 @@ module _ (text : List ℕ) (before : List IndexedFrame) (log : WrittenLog most_a
         let together : s.done ++ [] ≡ frame_index 0 (frames_of text) = rw none at s.together in
         s.stored ∙ ap (λ (front : List IndexedFrame). overwrite front before) (sym (append-nil s.done) ∙ together)
 
-pub ruleset frames_stored = (log_bytes, some_left, end_onward, end_inside, digits_fit, some_count, cases_fit, none_left, none_stored, one_stored, all_stored)
+pub ruleset frames_stored = (log_bytes, some_left, end_onward, end_inside, some_count, cases_fit, none_left, none_stored, one_stored, all_stored)
 
 pub length_index : (from : ℕ) (frames : List Frame) → length (frame_index from frames) ≡ length frames
 unfolding frame_index

@@ -1,13 +1,13 @@
 -- What the index says of a log's frames: a frame's entry gives its cases, and where its activity
--- digits are in the text. The frames before it take as many bytes as their entries say, so the entry
--- found is that of the frame at its line.
+-- digits end in the text; they start behind the line feed of the frame before, which its entry gives,
+-- and the frame's own count. So the digits between the two are the frame's.
 -- Assumes nothing.
-use Prim.Native.Nat.{ℕ, zero, suc, ◌+◌, ◌-◌, ◌*◌, ◌≤◌, ◌<◌}
+use Prim.Native.Nat.{ℕ, zero, suc, ◌+◌, ◌-◌, ◌*◌, ◌^◌, ◌≤◌, ◌<◌}
 use native.Mathlib.Omega.{arith}
-use mathlib.Core.Path.{◌≡◌, refl, sym, ap, ◌∙◌}
+use mathlib.Core.Path.{◌≡◌, refl, ap, ◌∙◌}
 use mathlib.Core.List.{List, [], ◌∷◌, ◌++◌, flat_map}
-use lib.ListN.{length, take, drop, get_or}
-use lib.Seq.{take_at}
+use lib.ListN.{length, take, drop, get_or, length-append}
+use lib.Seq.{take_at, drop-append-add}
 use Rattle.foundation.proofs.laws.Lists.{each_head}
 use Rattle.foundation.proofs.laws.Each.{each_at}
 use Rattle.limits.specs.Settings.{most_activities}
@@ -17,47 +17,61 @@ use Rattle.event_log_spec.specs.Lines.{frames_of}
 use Rattle.event_log_spec.proofs.laws.PairLaws.{length_pairs}
 use Rattle.event_log.specs.Stepping.{trace_end}
 use Rattle.event_log.specs.declared.index.IndexedFrame.{IndexedFrame}
-use Rattle.event_log.specs.FrameIndex.{frame_index, Indexed, frame_at, activity_digits}
-use Rattle.event_log.proofs.laws.FrameAt.{from_digits, frame_end, frame_part, frame_inside, frame_next}
-use Rattle.event_log.proofs.laws.FrameIndex.{length_index}
+use Rattle.event_log.specs.FrameIndex.{frame_index, Indexed, digits_start, frame_in, frame_at, activity_digits}
+use Rattle.event_log.proofs.laws.FrameAt.{from_digits, frame_end, frame_part, frame_inside}
+use Rattle.event_log.proofs.laws.FrameIndex.{frame_bytes, length_index}
 
--- the entry of a frame whose digits are in the text
-pub record EntryOf (text : List ℕ) (f : Frame) (entry : IndexedFrame) : Type 0 where
-  pub cases : entry.cases ≡ f.cases
-  pub inside : entry.start + entry.digits ≤ length text
-  pub digits : take entry.digits (drop entry.start text) ≡ activity_digits f
+-- where the line of a frame starts, counted from the first frame
+abbrev line_start : List Frame → ℕ → ℕ
+line_start frames line = length (flat_map write_frame (take line frames))
 
-module _ (text : List ℕ) where
-  -- the first of the frames from an index on
-  first_entry : (from : ℕ) (f : Frame) (frames : List Frame) → drop from text ≡ flat_map write_frame (f ∷ frames)
-      → EntryOf text f (record { start = from + count_digits; digits = 2 * length f.trace; cases = f.cases })
-  unfolding flat_map
-  first_entry from f frames e =
-      let rest = flat_map write_frame frames in
-      record {
-        cases = refl;
-        inside = omega (arith, frame_end text from f rest e, frame_inside text from f rest e);
-        digits =
-            rw (from_digits text from f rest e)
-            (take_at (activity_digits f) (line_feed ∷ rest) (2 * length f.trace) (omega (arith, length_pairs f.trace)));
-      }
+-- each frame takes its bytes
+start_after : (frames : List Frame) (line : ℕ) → line < length frames
+    → line_start frames (suc line) ≡ line_start frames line + count_digits + 2 * length (frame_in frames line).trace + 1
+unfolding flat_map
+start_after [] line less = absurd (omega arith)
+start_after (f ∷ frames) zero less = omega (arith, length-append (write_frame f) [], frame_bytes f)
+start_after (f ∷ frames) (suc line) less =
+    omega (
+      arith,
+      length-append (write_frame f) (flat_map write_frame (take (suc line) frames)),
+      length-append (write_frame f) (flat_map write_frame (take line frames)),
+      start_after frames line (omega arith),
+    )
 
-  -- and each that follows
-  entry_found : (from : ℕ) (frames : List Frame) → drop from text ≡ flat_map write_frame frames → (line : ℕ) (none : IndexedFrame)
-      → line < length frames
-      → EntryOf text (get_or frames line (record { cases = 0; trace = [] })) (get_or (frame_index from frames) line none)
-  unfolding frame_index flat_map
-  entry_found from [] e line none less = absurd (omega arith)
-  entry_found from (f ∷ frames) e zero none less = first_entry from f frames e
-  entry_found from (f ∷ frames) e (suc line) none less =
-      let rest = flat_map write_frame frames in
-      entry_found
-      (from + count_digits + 2 * length f.trace + 1)
-      frames
-      (rw (sym (frame_end text from f rest e)) (frame_next text from f rest e))
-      line
-      none
-      (omega arith)
+-- the text goes on with the frame where its line starts
+text_at : (frames : List Frame) (line : ℕ) → line < length frames
+    → drop (line_start frames line) (flat_map write_frame frames) ≡ write_frame (frame_in frames line) ++ flat_map write_frame (drop (suc line) frames)
+unfolding flat_map
+text_at [] line less = absurd (omega arith)
+text_at (f ∷ frames) zero less = refl
+text_at (f ∷ frames) (suc line) less =
+    let before = flat_map write_frame (take line frames) in
+    rw (length-append (write_frame f) before)
+    (drop-append-add (write_frame f) (flat_map write_frame frames) (length before) ∙ text_at frames line (omega arith))
+
+-- the entry of a frame: its cases, and where its digits end
+record EntryOf (from : ℕ) (frames : List Frame) (line : ℕ) (entry : IndexedFrame) : Type 0 where
+  cases : entry.cases ≡ (frame_in frames line).cases
+  ends : entry.end ≡ from + line_start frames line + count_digits + 2 * length (frame_in frames line).trace
+
+entry_found : (from : ℕ) (frames : List Frame) (line : ℕ) (none : IndexedFrame) → line < length frames
+    → EntryOf from frames line (get_or (frame_index from frames) line none)
+unfolding frame_index flat_map
+entry_found from [] line none less = absurd (omega arith)
+entry_found from (f ∷ frames) zero none less = record { cases = refl; ends = omega arith }
+entry_found from (f ∷ frames) (suc line) none less =
+    let later = entry_found (from + count_digits + 2 * length f.trace + 1) frames line none (omega arith) in
+    record {
+      cases = later.cases;
+      ends =
+          omega (
+            arith,
+            later.ends,
+            length-append (write_frame f) (flat_map write_frame (take line frames)),
+            frame_bytes f,
+          );
+    }
 
 -- there are as many entries as frames
 pub index_length : {text : List ℕ} {index : List IndexedFrame} → Indexed text index → length index ≡ length (frames_of text)
@@ -71,24 +85,67 @@ frame_under log line less = each_at line _ log.each less
 -- so of a log with its index
 module _ {text : List ℕ} {index : List IndexedFrame} (i : Indexed text index) (line : ℕ) (none : IndexedFrame)
     (less : line < length (frames_of text)) where
-  pub frame_found : EntryOf text (frame_at text line) (get_or index line none)
-  frame_found = rw i.indexed (entry_found text 0 (frames_of text) i.log.in_order line none less)
+  abbrev frame : Frame
+  frame = frame_at text line
 
-  -- by parts
-  pub cases_found : (get_or index line none).cases ≡ (frame_at text line).cases
-  cases_found = frame_found.cases
+  found_entry : EntryOf 0 (frames_of text) line (get_or index line none)
+  found_entry = rw i.indexed (entry_found 0 (frames_of text) line none less)
 
-  pub digits_inside : (get_or index line none).start + (get_or index line none).digits ≤ length text
-  digits_inside = frame_found.inside
+  frame_text : drop (line_start (frames_of text) line) text ≡ write_frame frame ++ flat_map write_frame (drop (suc line) (frames_of text))
+  frame_text = ap (drop (line_start (frames_of text) line)) i.log.in_order ∙ text_at (frames_of text) line less
 
-  pub digits_found : let entry = get_or index line none in
-      take (entry.start + entry.digits - entry.start) (drop entry.start text) ≡ activity_digits (frame_at text line)
+  pub cases_found : (get_or index line none).cases ≡ frame.cases
+  cases_found = found_entry.cases
+
+  end_found : (get_or index line none).end ≡ digits_start text line + 2 * length frame.trace
+  unfolding digits_start
+  end_found = omega (arith, found_entry.ends)
+
+  -- the next frame's digits start after its line feed and a count
+  next_found : (get_or index line none).end + 1 + count_digits ≡ digits_start text (suc line)
+  unfolding digits_start
+  next_found = omega (arith, found_entry.ends, start_after (frames_of text) line less)
+
+  pub digits_onward : digits_start text line ≤ (get_or index line none).end
+  digits_onward = omega (arith, end_found)
+
+  -- as many as 16 bits can say, by far
+  pub digits_few : (get_or index line none).end - digits_start text line < 2 ^ 16
+  digits_few = omega (arith, end_found, (frame_under i.log line less).short)
+
+  pub digits_inside : (get_or index line none).end ≤ length text
+  unfolding digits_start
+  digits_inside =
+      let at = line_start (frames_of text) line in
+      let rest = flat_map write_frame (drop (suc line) (frames_of text)) in
+      omega (arith, end_found, frame_end text at frame rest frame_text, frame_inside text at frame rest frame_text)
+
+  pub digits_found :
+      let start = digits_start text line in
+      let digits = (get_or index line none).end - start in
+      take (start + digits - start) (drop start text) ≡ activity_digits frame
+  unfolding digits_start
   digits_found =
-      let entry = get_or index line none in
-      let size : entry.start + entry.digits - entry.start ≡ entry.digits = omega arith in
-      rw size frame_found.digits
+      let at = line_start (frames_of text) line in
+      let rest = flat_map write_frame (drop (suc line) (frames_of text)) in
+      rw (from_digits text at frame rest frame_text)
+      (take_at (activity_digits frame) (line_feed ∷ rest) _ (omega (arith, end_found, length_pairs frame.trace)))
 
-pub ruleset found = (index_length, cases_found, digits_inside, digits_found)
+-- the first frame's digits start after its count
+pub first_start : (text : List ℕ) → count_digits ≡ digits_start text 0
+unfolding digits_start flat_map
+first_start text = refl
+
+-- and those of a later one after the line feed of the one before, and a count
+pub later_start : {text : List ℕ} {index : List IndexedFrame} → Indexed text index → (line : ℕ) (none : IndexedFrame) → (line ≡ 0 → ⊥)
+    → line < length (frames_of text)
+    → (get_or index (line - 1) none).end + 1 + count_digits ≡ digits_start text line
+later_start i zero none other less = absurd (other refl)
+later_start i (suc line) none other less =
+    let same : suc line - 1 ≡ line = omega arith in
+    rw same (next_found i line none (omega arith))
+
+pub ruleset found = (index_length, cases_found, digits_onward, digits_few, digits_inside, digits_found, first_start, later_start)
 
 -- the first frame without an index: its digits are those from the count to the line feed
 pub record FirstDigits (text : List ℕ) : Type 0 where

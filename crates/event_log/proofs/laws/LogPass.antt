@@ -20,8 +20,8 @@ use Rattle.limits.specs.Settings.{bound_in_range}
 use Rattle.event_log_spec.specs.declared.LogSize.{LogSize}
 use Rattle.log_lines.specs.declared.CheckedLine.{CheckedLine}
 use Rattle.event_log_spec.specs.Frames.{count_digits, most_frames, total_cases}
-use Rattle.event_log_spec.specs.Lines.{Line, lines, first_line, frame_of, frames_of}
-use Rattle.event_log_spec.specs.Checking.{line_fault, lines_fault, empty_fault, text_fault, log_refusal, log_size, checked}
+use Rattle.event_log_spec.specs.Lines.{Line, lines, first_line, frame_of, frames_with}
+use Rattle.event_log_spec.specs.Checking.{line_fault, lines_fault, lines_fault_with, empty_fault, text_fault_with, log_refusal_with, log_size, checked, checked_with}
 use Rattle.log_lines.specs.Reading.{checked_line, line_checked}
 use Rattle.event_log.specs.Pass.{text_checked, lines_checked}
 use Rattle.event_log_spec.proofs.laws.Lines.{lines_step}
@@ -33,11 +33,11 @@ use Rattle.event_log_spec.proofs.laws.LogChecks.{bound_passes, bound_refused, li
 -- checking a log under a bound in its range is checking its text, and checking a text of some byte
 -- is checking its lines
 pub text_decides : (A : ℕ) (text : List ℕ) → bound_in_range A ≡ true → checked A text ≡ text_checked A text
-unfolding checked text_checked
+unfolding checked_with text_checked
 text_decides A text in_range = rw ((bound_passes A).1 in_range)
 
 pub text_empty : (A : ℕ) (text : List ℕ) → length text ≡ 0 → text_checked A text ≡ Err EmptyLog
-unfolding text_checked log_refusal first_refusal empty_fault
+unfolding text_checked log_refusal_with first_refusal empty_fault
 text_empty A text e = rw e
 
 pub lines_checked_lem : (A : ℕ) (text : List ℕ) → 1 ≤ length text → text_checked A text ≡ lines_checked A text
@@ -54,11 +54,11 @@ pass A line cases ls =
     answered (lines_fault A line ls) (log_size (line + length ls) (cases + total_cases (map frame_of ls)))
 
 pub pass_all : (A : ℕ) (text : List ℕ) → pass A 0 0 (lines text) ≡ lines_checked A text
-unfolding pass lines_checked text_fault frames_of
+unfolding pass lines_checked text_fault_with frames_with
 pass_all A text = rw (zero-add (length (lines text)), zero-add (total_cases (map frame_of (lines text))), length-map (lines text) frame_of)
 
 pub pass_none : (A line cases : ℕ) → pass A line cases [] ≡ Ok (log_size line cases)
-unfolding pass lines_fault total_cases
+unfolding pass lines_fault_with total_cases
 pass_none A line cases = rw (add-zero line, add-zero cases)
 
 shift : (m n : ℕ) → m + suc n ≡ suc m + n
@@ -66,11 +66,11 @@ shift m n = omega arith
 
 module _ (A line cases : ℕ) (l : Line) (ls : List Line) where
   pub pass_faulty : (r : Refusal) → line_fault A line l ≡ Some r → pass A line cases (l ∷ ls) ≡ Err r
-  unfolding pass lines_fault
+  unfolding pass lines_fault_with
   pass_faulty r e = rw e
 
   pub pass_sound : line_fault A line l ≡ None → pass A line cases (l ∷ ls) ≡ pass A (line + 1) (cases + (frame_of l).cases) ls
-  unfolding pass lines_fault total_cases
+  unfolding pass lines_fault_with total_cases
   pass_sound e =
       rw (
         e,

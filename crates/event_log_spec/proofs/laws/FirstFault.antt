@@ -15,7 +15,7 @@ use lib.ListN.{length, get_or}
 use Rattle.limits.specs.declared.Refusal.{Refusal}
 use Rattle.limits.specs.Settings.{bound_in_range}
 use Rattle.event_log_spec.specs.Lines.{Line, lines}
-use Rattle.event_log_spec.specs.Checking.{line_fault, lines_fault, text_fault, size_of, checked}
+use Rattle.event_log_spec.specs.Checking.{line_fault, lines_fault, lines_fault_with, text_fault, text_fault_with, size_of, checked, checked_with}
 use Rattle.limits.proofs.laws.FirstOf.{first_some}
 use Rattle.limits.proofs.laws.AnswerNumbers.{answer_refused}
 use Rattle.event_log_spec.proofs.laws.LogChecks.{bound_passes, lines_decide}
@@ -59,7 +59,7 @@ module _ (A : ℕ) (r : Refusal) where
       before (suc j) h = shifted A start j (line_at ls j) ∙ f.sound_before j (omega arith)
 
   first_from : (start : ℕ) (ls : List Line) → lines_fault A start ls ≡ Some r → FirstFrom A start ls r
-  unfolding lines_fault
+  unfolding lines_fault_with
   first_from start [] e = absurd (none-some r e)
   first_from start (l ∷ ls) e =
       first_some
@@ -73,7 +73,7 @@ module _ (A : ℕ) (r : Refusal) where
   from_first : (start : ℕ) (ls : List Line) (k : ℕ) → k < length ls → SoundBefore A start ls k
       → line_fault A (start + k) (line_at ls k) ≡ Some r
       → lines_fault A start ls ≡ Some r
-  unfolding lines_fault
+  unfolding lines_fault_with
   from_first start [] k there before faulty = absurd (omega arith)
   from_first start (l ∷ ls) zero there before faulty = let here = rw (add-zero start) at faulty in rw here
   from_first start (l ∷ ls) (suc k) there before faulty =
@@ -102,7 +102,7 @@ module _ (A : ℕ) (text : List ℕ) (r : Refusal) where
       }
 
   pub first_faulty_line : (text_fault A text ≡ Some r) ↔ FirstFaultyLine A text r
-  unfolding text_fault
+  unfolding text_fault_with
   first_faulty_line = (
     λ e. first_line (first_from A r 0 (lines text) e),
     λ f.
@@ -114,7 +114,7 @@ module _ (A : ℕ) (text : List ℕ) (r : Refusal) where
 -- checking a text of some bytes under a bound in its range refuses it for just this
 pub refused_exactly : (A : ℕ) (text : List ℕ) (r : Refusal) → bound_in_range A ≡ true → 1 ≤ length text
     → (checked A text ≡ Err r) ↔ FirstFaultyLine A text r
-unfolding checked
+unfolding checked_with
 refused_exactly A text r in_range some_byte =
     let law = answer_refused (text_fault A text) (size_of text) r in
     rw ((bound_passes A).1 in_range, lines_decide A text some_byte)

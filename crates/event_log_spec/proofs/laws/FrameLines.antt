@@ -18,8 +18,8 @@ use Rattle.foundation.proofs.laws.Booleans.{or_false_parts}
 use Rattle.foundation.proofs.laws.Each.{each_imply, each_append, each_take, each_drop, all_each, each_all}
 use Rattle.hex_digits.specs.Digits.{is_digit, read_hex, write_hex}
 use Rattle.event_log_spec.specs.Frames.{Frame, FrameUnder, count_digits, most_frames}
-use Rattle.event_log_spec.specs.Lines.{Line, read_pairs, frame_of}
-use Rattle.event_log_spec.specs.Checking.{malformed, names_unknown, endpoint_misplaced, line_fault}
+use Rattle.event_log_spec.specs.Lines.{Line, read_pairs, frame_of, frame_with}
+use Rattle.event_log_spec.specs.Checking.{malformed, malformed_with, names_unknown, endpoint_misplaced, line_fault}
 use Rattle.hex_digits.proofs.laws.DigitLaws.{EachDigit, read_small, read_write, write_read, length_write, write_digits}
 use Rattle.event_log_spec.proofs.laws.PairLaws.{read_pairs_lem, write_pairs, length_pairs, length_read_pairs, pairs_digits}
 use Rattle.event_log_spec.proofs.laws.TraceLaws.{all_known, none_unknown, placed_behaviour, behaviour_placed}
@@ -38,7 +38,7 @@ pub record WellFormed (l : Line) : Type 0 where
   pub counted : 1 ≤ (frame_of l).cases
 
 pub well_formed : (l : Line) → malformed l ≡ false → WellFormed l
-unfolding malformed
+unfolding malformed_with
 well_formed l e =
     let no_feed = not l.ended in
     let odd = eqb (length l.bytes % 2) 1 in
@@ -57,7 +57,7 @@ well_formed l e =
     }
 
 pub not_malformed : {l : Line} → WellFormed l → malformed l ≡ false
-unfolding malformed
+unfolding malformed_with
 not_malformed {l} w =
     rw (
       ne_eqb (frame_of l).cases 0 (λ h. omega arith),
@@ -71,23 +71,23 @@ pub front_length : {l : Line} → WellFormed l → length (take count_digits l.b
 front_length {l} w = length-take-le count_digits l.bytes (omega (arith, w.enough))
 
 pub trace_length : (l : Line) → length (frame_of l).trace ≡ (length l.bytes - count_digits) / 2
-unfolding frame_of
+unfolding frame_with
 trace_length l = rw (length_read_pairs (drop count_digits l.bytes), length-drop count_digits l.bytes)
 
 count_fits : {l : Line} → WellFormed l → (frame_of l).cases < 16 ^ count_digits
-unfolding frame_of
+unfolding frame_with
 count_fits {l} w =
     let front = take count_digits l.bytes in
     subst (λ (k : ℕ). read_hex front < 16 ^ k) (front_length w) (read_small front)
 
 count_written : {l : Line} → WellFormed l → write_hex count_digits (frame_of l).cases ≡ take count_digits l.bytes
-unfolding frame_of
+unfolding frame_with
 count_written {l} w =
     let front = take count_digits l.bytes in
     subst (λ (k : ℕ). write_hex k (read_hex front) ≡ front) (front_length w) (write_read front (each_take count_digits w.digits))
 
 trace_written : {l : Line} → WellFormed l → flat_map (write_hex 2) (frame_of l).trace ≡ drop count_digits l.bytes
-unfolding frame_of
+unfolding frame_with
 trace_written {l} w =
     let back = drop count_digits l.bytes in
     let even : length back % 2 ≡ 0 = rw (length-drop count_digits l.bytes) (omega arith) in
@@ -101,7 +101,7 @@ pub line_written : {l : Line} → WellFormed l → l ≡ frame_line (frame_of l)
 line_written w = λ i. record { bytes = bytes_written w i; ended = w.feed i }
 
 pub frame_back : (f : Frame) → f.cases < 16 ^ count_digits → Each (λ (a : ℕ). a < 256) f.trace → frame_of (frame_line f) ≡ f
-unfolding frame_of
+unfolding frame_with
 frame_back f countable small =
     let count = write_hex count_digits f.cases in
     let pairs = flat_map (write_hex 2) f.trace in

@@ -17,7 +17,7 @@ use Rattle.limits.specs.declared.Refusal.TheVariants.{MalformedFrame, UnknownAct
 use Rattle.limits.specs.Refusals.{number, value, given, first_of}
 use Rattle.event_log_spec.specs.Frames.{most_events, most_frames}
 use Rattle.event_log_spec.specs.Lines.{Line, frame_of}
-use Rattle.event_log_spec.specs.Checking.{malformed, names_unknown, endpoint_misplaced, line_fault}
+use Rattle.event_log_spec.specs.Checking.{malformed, names_unknown, endpoint_misplaced, line_fault, line_fault_with}
 
 -- the line passes the checks before those of its trace's codes
 pub record Readable (k : ℕ) (l : Line) : Type 0 where
@@ -50,7 +50,7 @@ module _ (A k : ℕ) (l : Line) where
       (given (names_unknown A (frame_of l).trace) (UnknownActivity k)
       ∷ given (endpoint_misplaced (frame_of l).trace) (MisplacedEndpoint k)
       ∷ [])
-  unfolding line_fault
+  unfolding line_fault_with
   codes_decide r = rw (lt-leb most_frames k r.few, r.formed, le-ltb most_events (length (frame_of l).trace) r.short)
 
   codes_order : Readable k l → FaultOrder A k l (line_fault A k l)
@@ -62,7 +62,7 @@ module _ (A k : ℕ) (l : Line) where
       (λ f. by_test (endpoint_misplaced (frame_of l).trace) (λ t. rw (f, t) (endpoint_misplaced_lem r f t)) (λ g. rw (f, g) (no_fault r f g))))
 
   formed_order : k < most_frames → malformed l ≡ false → FaultOrder A k l (line_fault A k l)
-  unfolding line_fault
+  unfolding line_fault_with
   formed_order few formed =
       let size = length (frame_of l).trace in
       by_test
@@ -71,11 +71,11 @@ module _ (A k : ℕ) (l : Line) where
       (λ f. codes_order (record { few = few; formed = formed; short = ltb-false most_events size f }))
 
   few_order : k < most_frames → FaultOrder A k l (line_fault A k l)
-  unfolding line_fault
+  unfolding line_fault_with
   few_order few = by_test (malformed l) (λ t. rw (lt-leb most_frames k few, t) (line_malformed few t)) (formed_order few)
 
   order : FaultOrder A k l (line_fault A k l)
-  unfolding line_fault
+  unfolding line_fault_with
   order =
       by_test
       (leb most_frames k)
@@ -83,7 +83,7 @@ module _ (A k : ℕ) (l : Line) where
       (λ f. few_order (leb-false most_frames k f))
 
   ordered : {o : Option Refusal} → FaultOrder A k l o → line_fault A k l ≡ o
-  unfolding line_fault
+  unfolding line_fault_with
   ordered (index_large many) = rw (le-leb most_frames k many)
   ordered (line_malformed few t) = rw (lt-leb most_frames k few, t)
   ordered (trace_long few formed long) = rw (lt-leb most_frames k few, formed, lt-ltb most_events (length (frame_of l).trace) long)

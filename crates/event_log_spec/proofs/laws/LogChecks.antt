@@ -17,7 +17,7 @@ use Rattle.limits.specs.declared.Refusal.TheVariants.{InvalidSetting, EmptyLog}
 use Rattle.limits.specs.Refusals.{first_refusal, Numbered, answer_number, answer_value}
 use Rattle.limits.specs.Settings.{bound_in_range, bound_fault}
 use Rattle.event_log_spec.specs.declared.LogSize.{LogSize}
-use Rattle.event_log_spec.specs.Checking.{empty_fault, text_fault, log_refusal, checked}
+use Rattle.event_log_spec.specs.Checking.{empty_fault, text_fault, log_refusal, log_refusal_with, checked, checked_with}
 use Rattle.limits.proofs.laws.AnswerNumbers.{numbered}
 use Rattle.limits.proofs.laws.FirstOf.{given_none, first_alone, first_none}
 
@@ -41,12 +41,12 @@ pub record LogPasses (settings places : Option Refusal) (A : ℕ) (text : List �
 
 module _ (A : ℕ) (text : List ℕ) where
   pub lines_decide : 1 ≤ length text → log_refusal None None A text ≡ text_fault A text
-  unfolding log_refusal first_refusal
+  unfolding log_refusal_with first_refusal
   lines_decide some_byte = rw ((some_byte_passes text).1 some_byte) (first_alone (text_fault A text))
 
   module _ (settings places : Option Refusal) where
     passes : log_refusal settings places A text ≡ None → LogPasses settings places A text
-    unfolding log_refusal first_refusal
+    unfolding log_refusal_with first_refusal
     passes e =
         let text_checks = empty_fault text ∷ text_fault A text ∷ None ∷ [] in
         let parts₁ = first_none settings (None ∷ places ∷ None ∷ None ∷ text_checks) e in
@@ -65,10 +65,10 @@ module _ (A : ℕ) (text : List ℕ) where
 -- what checking a log answers, by the checks before those of its lines
 module _ (A : ℕ) (text : List ℕ) where
   pub bound_refused : bound_in_range A ≡ false → checked A text ≡ Err InvalidSetting
-  unfolding checked bound_fault log_refusal first_refusal
+  unfolding checked_with bound_fault log_refusal_with first_refusal
   bound_refused e = rw e
 
   pub checked_numbered : (r : Result LogSize Refusal) → r ≡ checked A text
       → Numbered (log_refusal (bound_fault A) None A text) (answer_number r) (answer_value r)
-  unfolding checked
+  unfolding checked_with
   checked_numbered r e = numbered _ _ e

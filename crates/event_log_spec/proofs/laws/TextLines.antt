@@ -4,21 +4,17 @@
 -- Assumes nothing.
 use Prim.Native.Nat.{ℕ}
 use mathlib.Core.Path.{◌≡◌, refl, sym, ap, ap₂, ◌∙◌}
-use mathlib.Core.Bool.{true, cond, false≢true}
+use mathlib.Core.Bool.{true, false≢true}
 use mathlib.Core.List.{List, [], ◌∷◌, ◌++◌, map, flat_map, append_assoc}
 use borrow.Author.Tests.{eqb-true, ne_eqb}
 use lib.Dec.{eqb}
 use Rattle.foundation.specs.Lists.{each_nil, each_cons}
 use Rattle.foundation.proofs.laws.Booleans.{by_test}
 use Rattle.hex_digits.specs.Digits.{digit_of, is_digit, line_feed}
-use Rattle.event_log_spec.specs.Frames.{Frame, write_frame}
-use Rattle.event_log_spec.specs.Lines.{Line, put_first, lines}
+use Rattle.event_log_spec.specs.Frames.{Frame, write_frame, written_with}
+use Rattle.event_log_spec.specs.Lines.{Line, line_text, put_first, lines}
 use Rattle.hex_digits.proofs.laws.DigitLaws.{EachDigit}
 use Rattle.event_log_spec.proofs.laws.FrameLines.{frame_line, frame_digits}
-
--- the bytes of a line with the line feed that ends it, if one does
-abbrev pub line_text : Line → List ℕ
-line_text l = l.bytes ++ cond l.ended (line_feed ∷ []) []
 
 put_text : (byte : ℕ) (ls : List Line) → flat_map line_text (put_first byte ls) ≡ byte ∷ flat_map line_text ls
 unfolding flat_map
@@ -46,11 +42,11 @@ lines_after_digits text (each_cons {x = byte} digit digits) =
     rw (ne_eqb byte line_feed (digit_no_feed byte digit), lines_after_digits text digits)
 
 pub written_text : (f : Frame) → write_frame f ≡ line_text (frame_line f)
-unfolding write_frame
+unfolding written_with
 written_text f = refl
 
 pub lines_written : (frames : List Frame) → lines (flat_map write_frame frames) ≡ map frame_line frames
-unfolding lines flat_map write_frame
+unfolding lines flat_map written_with
 lines_written [] = refl
 lines_written (f ∷ frames) =
     let later = flat_map write_frame frames in

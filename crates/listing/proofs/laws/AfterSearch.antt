@@ -19,7 +19,7 @@ use Rattle.reduction_spec.specs.Reduction.{reduced, reduced_after}
 use Rattle.limits.proofs.laws.AnswerNumbers.{answer_numbered}
 use Rattle.listing.specs.declared.Listing.{Listing}
 use Rattle.listing.specs.declared.Listing.TheVariants.{Incomplete, Complete}
-use Rattle.listing.specs.Listing.{Resources, found_in, listing_of, refusal_of, listing_number, listing_value, kept_of, searched, rejected_left, found_left, kept_left, listing, GoesAsWritten}
+use Rattle.listing.specs.Listing.{Resources, found_in, listing_of, refusal_of, listing_number, listing_value, kept_of, searched_with, rejected_left_with, found_left_with, kept_left_with, listing_with, GoesAsWritten}
 
 -- an answer has the number and the value of what was refused, by what the search answered
 listing_numbered : (d : Result Run Refusal) (found : List ℕ) (room : ℕ)
@@ -41,7 +41,7 @@ module _
   where
     returned : (answer : Result Listing Refusal) (kept : List ℕ) → answer ≡ listing_of d found (length resources.kept) → kept ≡ kept_of d found resources.kept
         → GoesAsWritten s text resources answer rejected found kept
-    unfolding searched rejected_left found_left kept_left listing
+    unfolding searched_with rejected_left_with found_left_with kept_left_with listing_with
     returned answer kept e f =
         let listed = e ∙ ap₂ (λ (x : Result Run Refusal) (l : List ℕ). listing_of x l (length resources.kept)) answers finds in
         record {

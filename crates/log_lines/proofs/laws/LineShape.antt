@@ -23,7 +23,7 @@ use Rattle.limits.specs.declared.Refusal.TheVariants.{MalformedFrame, UnknownAct
 use Rattle.log_lines.specs.declared.Activities.{Activities}
 use Rattle.hex_digits.specs.Digits.{is_digit, read_hex, line_feed}
 use Rattle.event_log_spec.specs.Frames.{count_digits, most_events, most_frames, shortest_frame, longest_frame}
-use Rattle.event_log_spec.specs.Lines.{Line, first_line, read_pairs, frame_of}
+use Rattle.event_log_spec.specs.Lines.{Line, first_line, read_pairs, frame_of, frame_with}
 use Rattle.event_log_spec.specs.Checking.{malformed, names_unknown, endpoint_misplaced}
 use Rattle.log_lines.specs.Reading.{count_in, in_pairs, activities, activities_in, checked_line, line_checked}
 use Rattle.event_log_spec.proofs.laws.Lines.{first_none, first_feed, first_byte}
@@ -85,7 +85,7 @@ counted text n e =
 
 -- a line that is not malformed begins with a count
 formed_count : (text : List ℕ) → WellFormed (first_line text) → has_count text ≡ true
-unfolding frame_of
+unfolding frame_with
 formed_count text w =
     let bytes = (first_line text).bytes in
     let (more, whole) = first_prefix text in
@@ -190,7 +190,7 @@ module _ (text : List ℕ) (n : ℕ) (c : Counted text n) where
 
   pub line_shape : (A from : ℕ) (read : Activities) → activities_in A (from + count_digits) rest ≡ Some read
       → LineShape A from n read (first_line text)
-  unfolding frame_of
+  unfolding frame_with
   line_shape A from read e =
       let s = said A (from + count_digits) read e in
       let front = take count_digits text in

@@ -17,18 +17,18 @@ use Rattle.places.specs.Places.{place_under, place_fault}
 use Rattle.event_log_spec.specs.declared.LogSize.{LogSize}
 use Rattle.event_log_spec.specs.Frames.{WrittenLog}
 use Rattle.event_log_spec.specs.Lines.{frames_of}
-use Rattle.event_log_spec.specs.Checking.{log_refusal}
+use Rattle.event_log_spec.specs.Checking.{log_refusal, log_refusal_with}
 use Rattle.limits.proofs.laws.AnswerNumbers.{answer_refused, answer_accepted}
 use Rattle.event_log_spec.proofs.laws.LogChecks.{log_passes}
 use Rattle.event_log_spec.proofs.laws.Written.{text_written, bound_most}
 use Rattle.event_log_spec.proofs.laws.WiderBound.{log_wider}
 use Rattle.event_log.specs.Pass.{text_checked}
-use Rattle.replay_spec.specs.Answers.{first_trace, balances, replayed, judgement, judged}
+use Rattle.replay_spec.specs.Answers.{first_trace, balances, replayed, replayed_with, judgement, judged, judged_with}
 use Rattle.replay.specs.Replaying.{place_and_text_checked}
 
 module _ (A : ℕ) (text : List ℕ) (p : Place) where
   pub place_refused : place_under A p ≡ false → place_and_text_checked A text p ≡ Err (InvalidPlace 0)
-  unfolding place_and_text_checked log_refusal first_refusal place_fault
+  unfolding place_and_text_checked log_refusal_with first_refusal place_fault
   place_refused e = rw e
 
   pub text_decides : place_under A p ≡ true → place_and_text_checked A text p ≡ text_checked A text
@@ -53,31 +53,31 @@ module _ (A : ℕ) (text : List ℕ) (p : Place) where
 
   -- what replaying answers
   pub replay_setting : bound_in_range A ≡ false → replayed A text p ≡ Err InvalidSetting
-  unfolding replayed bound_fault log_refusal first_refusal
+  unfolding replayed_with bound_fault log_refusal_with first_refusal
   replay_setting e = rw e
 
   module _ (bound : bound_in_range A ≡ true) where
     pub replay_argument : (r : Refusal) → place_and_text_checked A text p ≡ Err r → replayed A text p ≡ Err r
-    unfolding replayed bound_fault
+    unfolding replayed_with bound_fault
     replay_argument r e = rw (bound, argument_refused r e)
 
     pub replay_passed : (size : LogSize) → place_and_text_checked A text p ≡ Ok size → replayed A text p ≡ Ok (balances p (first_trace text))
-    unfolding replayed bound_fault
+    unfolding replayed_with bound_fault
     replay_passed size e = rw (bound, arguments_pass size e)
 
   -- what judging answers
   module _ (T : ℕ) where
     pub judge_setting : bound_in_range A && threshold_in_range T ≡ false → judged A T text p ≡ Err InvalidSetting
-    unfolding judged bound_and_threshold_fault log_refusal first_refusal
+    unfolding judged_with bound_and_threshold_fault log_refusal_with first_refusal
     judge_setting e = rw e
 
     module _ (in_range : bound_in_range A && threshold_in_range T ≡ true) where
       pub judge_argument : (r : Refusal) → place_and_text_checked A text p ≡ Err r → judged A T text p ≡ Err r
-      unfolding judged bound_and_threshold_fault
+      unfolding judged_with bound_and_threshold_fault
       judge_argument r e = rw (in_range, argument_refused r e)
 
       pub judge_passed : (size : LogSize) → place_and_text_checked A text p ≡ Ok size → judged A T text p ≡ Ok (judgement T (frames_of text) p)
-      unfolding judged bound_and_threshold_fault
+      unfolding judged_with bound_and_threshold_fault
       judge_passed size e = rw (in_range, arguments_pass size e)
 
       pub bound_known : bound_in_range A ≡ true

@@ -2,7 +2,7 @@
 -- and a frame adds its cases to one of the four. All cases of a log stay far below 2 to the power
 -- 54, where shares can be compared.
 -- Assumes nothing.
-use Prim.Native.Nat.{ℕ, ◌+◌, ◌*◌, ◌^◌, ◌≤◌, ◌<◌}
+use Prim.Native.Nat.{ℕ, ◌+◌, ◌^◌, ◌≤◌, ◌<◌}
 use native.Mathlib.Nat.{add-zero}
 use native.Mathlib.Omega.{arith}
 use mathlib.Core.Path.{◌≡◌, refl, ap}
@@ -10,11 +10,11 @@ use mathlib.Core.Bool.{Bool, true, false, cond, not, ◌&&◌}
 use mathlib.Core.List.{List, [], ◌∷◌, ◌++◌}
 use lib.IntN.{pos}
 use lib.Signed.{lt_z}
-use lib.ListN.{length, get_or, set}
-use Rattle.foundation.specs.Lists.{Each, each_nil, each_cons}
+use lib.ListN.{get_or, set}
 use Rattle.foundation.proofs.laws.Sums.{sum_append}
 use Rattle.places.specs.declared.Place.{Place}
-use Rattle.event_log_spec.specs.Frames.{Frame, FrameUnder, WrittenLog, count_digits, total_cases}
+use Rattle.event_log_spec.proofs.laws.Written.{total_bounded}
+use Rattle.event_log_spec.specs.Frames.{Frame, WrittenLog, total_cases}
 use Rattle.replay_spec.specs.declared.CaseCounts.{CaseCounts}
 use Rattle.replay_spec.specs.Balance.{underfeeds, overfeeds}
 use Rattle.replay_spec.specs.Judgement.{cases_where, case_counts, cases_of, verdict_where, verdict_of, verdict, mark}
@@ -66,11 +66,6 @@ module _ (p : Place) where
       → count_row (case_counts p (frames ++ (f ∷ []))) ≡ with_cases (count_row (case_counts p frames)) (after_trace p f.trace) f.cases
   unfolding with_cases kind_of case_counts underfeeds overfeeds
   counts_more frames f = simp cases_where_more (row_more (case_counts p frames) f.cases (underfeeds f.trace p) (overfeeds f.trace p))
-
-pub total_bounded : {A : ℕ} {frames : List Frame} → Each (FrameUnder A) frames → total_cases frames ≤ 16 ^ count_digits * length frames
-unfolding total_cases
-total_bounded each_nil = omega arith
-total_bounded (each_cons here later) = omega (arith, here.countable, total_bounded later)
 
 -- of a log's counts the verdict is the log's, and their sum is small enough to be compared
 module _ (p : Place) (frames : List Frame) where

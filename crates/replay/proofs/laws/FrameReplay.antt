@@ -21,7 +21,7 @@ use Rattle.replay_spec.specs.Judgement.{case_counts, cases_of}
 use Rattle.replay_spec.proofs.laws.Counts.{counts_add_up}
 use Rattle.token_replay.specs.Tokens.{codes_in}
 use Rattle.token_replay.proofs.laws.CodeDigits.{codes_written}
-use Rattle.replay.proofs.laws.FrameByFrame.{total_bounded}
+use Rattle.event_log_spec.proofs.laws.Written.{total_bounded}
 
 -- digits of which the codes are the frame's trace
 pub record DigitsOf (f : Frame) (digits : List ℕ) : Type 0 where

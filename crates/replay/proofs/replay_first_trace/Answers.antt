@@ -6,7 +6,7 @@ use Rattle.std.proofs.Common.{sym, arith, rules}
 use mir.Syntax.{w16}
 use mir.ValLaws.{to_z-of_z}
 use Rattle.event_log.proofs.laws.IndexedFrames.{first_found}
-use Rattle.replay_spec.specs.Answers.{first_trace}
+use Rattle.replay_spec.specs.Answers.{first_trace_with}
 use Rattle.replay_spec.proofs.laws.AnswerLaws.{replayed_numbered}
 use Rattle.replay.proofs.laws.Arguments.{log_known, replay_passed, replay_steps}
 use Rattle.replay.proofs.laws.FrameReplay.{frame_digits}
@@ -31,7 +31,7 @@ replay_trace-tokens-requires c =
     rw c.first_digits.ensures (digits.short, digits.all_digits)
 
 pub returns-clause-answer : goal.returns-clause-answer
-unfolding first_trace
+unfolding first_trace_with
 returns-clause-answer c =
     let a = c.args in
     let r = c.replay_trace-tokens.result in

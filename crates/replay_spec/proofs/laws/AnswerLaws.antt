@@ -25,7 +25,7 @@ use Rattle.event_log_spec.proofs.laws.Written.{text_written}
 use Rattle.replay_spec.specs.declared.Balances.{Balances}
 use Rattle.replay_spec.specs.declared.Judgement.{Judgement}
 use Rattle.replay_spec.specs.Judgement.{case_counts, cases_of}
-use Rattle.replay_spec.specs.Answers.{first_trace, replayed, judged}
+use Rattle.replay_spec.specs.Answers.{first_trace, first_trace_with, replayed, replayed_with, judged, judged_with}
 use Rattle.replay_spec.proofs.laws.Extremes.{Ranges, ranges}
 use Rattle.replay_spec.proofs.laws.Counts.{counts_add_up}
 
@@ -37,7 +37,7 @@ passed_log settings places A text e =
 
 -- the first trace of a log is short
 first_short : (A : ℕ) (text : List ℕ) → WrittenLog A (frames_of text) text → length (first_trace text) ≤ most_events
-unfolding first_trace
+unfolding first_trace_with
 first_short A text w = go (frames_of text) w.some_frame w.each
   where
     go : (frames : List Frame) → 1 ≤ length frames → Each (FrameUnder A) frames
@@ -47,7 +47,7 @@ first_short A text w = go (frames_of text) w.some_frame w.each
 
 module _ (A : ℕ) (text : List ℕ) (p : Place) where
   pub replayed_ranges : (b : Balances) → replayed A text p ≡ Ok b → Ranges b.least b.last
-  unfolding replayed
+  unfolding replayed_with
   replayed_ranges b e =
       let (passes, same) = answer_accepted _ _ b e in
       rw (sym same) (ranges p (first_trace text) (first_short A text (passed_log (bound_fault A) (place_fault A 0 p) A text passes)))
@@ -55,13 +55,13 @@ module _ (A : ℕ) (text : List ℕ) (p : Place) where
   -- what is answered as defined has the number and the value of the refusal
   pub replayed_numbered : {r : Result Balances Refusal} → r ≡ replayed A text p
       → Numbered (log_refusal (bound_fault A) (place_fault A 0 p) A text) (answer_number r) (answer_value r)
-  unfolding replayed
+  unfolding replayed_with
   replayed_numbered e = numbered _ _ e
 
 module _ (A T : ℕ) (text : List ℕ) (p : Place) where
   -- the counts are those of all frames
   pub judged_counts : (j : Judgement) → judged A T text p ≡ Ok j → case_counts p (frames_of text) ≡ j.counts
-  unfolding judged
+  unfolding judged_with
   judged_counts j e = ap (λ (x : Judgement). x.counts) (answer_accepted _ _ j e).1
 
   pub judged_adds_up : (j : Judgement) → judged A T text p ≡ Ok j → cases_of j.counts ≡ total_cases (frames_of text)
@@ -69,5 +69,5 @@ module _ (A T : ℕ) (text : List ℕ) (p : Place) where
 
   pub judged_numbered : {r : Result Judgement Refusal} → r ≡ judged A T text p
       → Numbered (log_refusal (bound_and_threshold_fault A T) (place_fault A 0 p) A text) (answer_number r) (answer_value r)
-  unfolding judged
+  unfolding judged_with
   judged_numbered e = numbered _ _ e

@@ -21,7 +21,7 @@ use Rattle.discovery_spec.specs.Search.{Progress}
 use Rattle.discovery_spec.specs.Discovery.{run, summary, run_refusal}
 use Rattle.writer.specs.Writing.{list_text}
 use Rattle.writer.proofs.laws.PlaceLines.{length_text}
-use Rattle.reporter_spec.specs.Program.{most_input, capacity, settings_malformed, settings_in, log_in, program_refusal, refusal_line, result_line, reported_words, report, placelist}
+use Rattle.reporter_spec.specs.Program.{most_input, capacity, settings_malformed, settings_in, log_in, program_refusal_with, refusal_line, result_line, reported_words, report, placelist, placelist_with}
 use Rattle.report_lines.specs.ProgramLines.{run_line}
 use Rattle.report_lines.proofs.laws.LineLengths.{length_refusal, length_run}
 use Rattle.reporter.specs.Reporting.{log_report, most_output}
@@ -56,16 +56,16 @@ log_fits s text = go (run_refusal s text) refl
 -- the log
 module _ (input : List ℕ) where
   pub too_large : most_input < length input → placelist input ≡ refusal_line (TooLarge 0)
-  unfolding placelist program_refusal
+  unfolding placelist_with program_refusal_with
   too_large long = rw (lt-ltb most_input (length input) long)
 
   module _ (short : length input ≤ most_input) where
     pub frame_malformed : settings_malformed input ≡ true → placelist input ≡ refusal_line InvalidSetting
-    unfolding placelist program_refusal
+    unfolding placelist_with program_refusal_with
     frame_malformed e = rw (le-ltb most_input (length input) short, e)
 
     pub log_decides : settings_malformed input ≡ false → placelist input ≡ log_report (settings_in input) (log_in input)
-    unfolding placelist program_refusal log_report
+    unfolding placelist_with program_refusal_with log_report
     log_decides e = rw (le-ltb most_input (length input) short, e, only_one (run_refusal (settings_in input) (log_in input)))
 
   pub output_fits : length (placelist input) ≤ most_output

@@ -25,7 +25,7 @@ use Rattle.candidate_order_spec.proofs.laws.CandidateOrder.{candidate_under}
 use Rattle.discovery_spec.specs.declared.End.TheVariants as End
 use Rattle.discovery_spec.specs.declared.Run.{Run}
 use Rattle.discovery_spec.specs.Search.{Capacity, Progress, end_of, is_completed, state_of}
-use Rattle.discovery_spec.specs.Discovery.{run, summary, run_refusal, discovered, capacity_of, found_after}
+use Rattle.discovery_spec.specs.Discovery.{run, summary, run_refusal, discovered_with, capacity_of, found_after_with}
 use Rattle.discovery_spec.specs.TwoRuns.{found_by, Completes, FoundAll}
 use Rattle.discovery_spec.proofs.laws.AnswerLaws.{answer_within}
 use Rattle.discovery_spec.proofs.laws.AnyTwoRuns.{two_runs}
@@ -36,7 +36,7 @@ use Rattle.reduction_spec.specs.Reduction.{redundant, reduced_words, reduced}
 use Rattle.reduction_spec.proofs.laws.Reducing.{reduced_kept, kept_taken}
 use Rattle.listing.specs.declared.Listing.{Listing}
 use Rattle.listing.specs.declared.Listing.TheVariants.{Incomplete, Complete}
-use Rattle.listing.specs.Listing.{Resources, found_in, kept_of, searched, found_left, kept_left, listing, GoesAsWritten}
+use Rattle.listing.specs.Listing.{Resources, found_in, kept_of, searched_with, found_left, found_left_with, kept_left_with, listing_with, GoesAsWritten}
 use Rattle.reporter_spec.specs.Program.{reported_words}
 use Rattle.reporter.proofs.laws.ListingCases.{Completed, was_refused, was_incomplete, was_complete}
 
@@ -49,7 +49,7 @@ few_reduced words =
 module _ (s : Settings) (text : List ℕ) (room : Capacity) (passes : run_refusal s text ≡ None) where
   -- a run finds no more words than its list takes, and no more are reported
   found_fits : length (state_of (run s text room)).found ≤ room.found
-  unfolding discovered summary
+  unfolding discovered_with summary
   found_fits = (answer_within s text room (summary (run s text room)) (rw passes)).found_fits
 
   pub reported_fits : length (reported_words (run s text room)) ≤ room.found
@@ -89,16 +89,16 @@ module _ {s : Settings} {text : List ℕ} {resources : Resources} {answer : Resu
     made = run s text (room_of resources)
 
     pub listing_refused : (r : Refusal) → answer ≡ Err r → run_refusal s text ≡ Some r
-    unfolding listing searched discovered
+    unfolding listing_with searched_with discovered_with
     listing_refused r e = was_refused (run_refusal s text) (summary made) _ _ r (sym goes.answers ∙ e)
 
     -- the words that the run found are the first ones of its list
     found_first : run_refusal s text ≡ None → found_in (summary made) (found_left s text resources) ≡ (state_of made).found
-    unfolding found_in found_left found_after summary
+    unfolding found_in found_left_with found_after_with summary
     found_first passes = rw passes (take_overwritten resources.found (state_of made).found)
 
     pub listing_stopped : (x : Run) → answer ≡ Ok (Incomplete x) → Reports s text (room_of resources) x x.found found
-    unfolding listing searched discovered summary found_in reported_words
+    unfolding listing_with searched_with discovered_with summary found_in reported_words
     listing_stopped x e =
         let was = was_incomplete (run_refusal s text) (summary made) _ _ x (sym goes.answers ∙ e) in
         record {
@@ -124,14 +124,14 @@ module _ {s : Settings} {text : List ℕ} {resources : Resources} {answer : Resu
             (reduced_kept (state_of made).found (found_listable s text (room_of resources) passes ended) (length resources.kept) enough)
 
         reduction_leaves : take (length (reported_words made)) kept ≡ reported_words made
-        unfolding reported_words kept_left searched discovered kept_of summary
+        unfolding reported_words kept_left_with searched_with discovered_with kept_of summary
         reduction_leaves =
             rw (goes.leaves_kept, passes, end_completed (end_of made) ended, found_first passes)
             (kept_taken (state_of made).found (found_listable s text (room_of resources) passes ended) resources.kept enough)
 
       completed_so : (x : Run) (d : Result ℕ Refusal) → answer ≡ Ok (Complete x d)
           → Completed (run_refusal s text) (summary made) x × (d ≡ Ok (length (reported_words made)))
-      unfolding listing searched discovered summary
+      unfolding listing_with searched_with discovered_with summary
       completed_so x d e =
           let was = was_complete (run_refusal s text) (summary made) _ _ x d (sym goes.answers ∙ e) in
           (was.0, was.1 ∙ reduction_answers was.0.passes was.0.ended)

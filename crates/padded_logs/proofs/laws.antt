@@ -1,0 +1,4 @@
+pub mod PaddedLines
+pub mod PaddedFrames
+pub mod NothingLostHolds
+pub mod FormerLogs
