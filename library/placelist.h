@@ -45,8 +45,8 @@
  *
  * The stack
  *   A call takes at most PLACELIST_MOST_STACK bytes of the stack of the thread that makes it. That is
- *   measured, not proved: check, replay and write take less than 200, reduce 26,600, judge and search
- *   33,200, report 74,200. library/tests/stack.c measures it again, on inputs that drive each call to
+ *   measured, not proved: check, replay and write take less than 200, reduce 26,300, judge and search
+ *   33,200, report 74,300. library/tests/stack.c measures it again, on inputs that drive each call to
  *   its deepest, and the tests hold it to the constant.
  *
  * The library is for x86-64 Linux, and needs nothing but the C library.

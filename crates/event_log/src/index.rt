@@ -1,6 +1,6 @@
 // The index of a log's frames, made once for all replays: document 01, "Settings and the log". What
 // an entry of it holds is known in this file alone.
-ghost use Rattle.std.specs.Prelude.{◌≡◌, ◌≤◌, ◌<◌, length};
+ghost use Rattle.std.specs.Prelude.{◌≡◌, ◌+◌, ◌≤◌, ◌<◌, length};
 ghost use Rattle.foundation.specs.Buffers.{overwrite};
 ghost use Rattle.limits.specs.Settings.{most_activities};
 ghost use Rattle.event_log_spec.specs.Frames.{WrittenLog, most_frames};
@@ -56,26 +56,34 @@ impl<'a> IndexedLog<'a> {
         u64::from(self.index[frame].cases)
     }
 
-    // Where the activity digits of a frame start.
+    // Where the activity digits of the frame after one start: behind its line feed and a count.
     #[tactic(auto, using(crate::proofs::laws::IndexedFrames::found))]
-    fn digits_start(&self, frame: usize) -> usize
+    pub fn next_start(&self, frame: usize) -> usize
         requires { frame < length (frames_of self.now.text.now) }
-        ensures { result ≡ digits_start self.now.text.now frame }
+        ensures { result ≡ digits_start self.now.text.now (frame + 1) }
     {
-        let line = match frame {
-            0 => 0,
-            _ => self.index[frame - 1].end as usize + 1,
-        };
-        line + COUNT_DIGITS
+        self.index[frame].end as usize + 1 + COUNT_DIGITS
     }
 
-    // The activity digits of a frame: a part of the log's text.
+    // Where the activity digits of a frame start.
     #[tactic(auto, using(crate::proofs::laws::IndexedFrames::found))]
-    pub fn digits(&self, frame: usize) -> &'a [u8]
-        requires { frame < length (frames_of self.now.text.now) }
+    pub fn digits_start(&self, frame: usize) -> usize
+        requires { frame ≤ length (frames_of self.now.text.now) }
+        ensures { result ≡ digits_start self.now.text.now frame }
+    {
+        match frame {
+            0 => COUNT_DIGITS,
+            _ => self.next_start(frame - 1),
+        }
+    }
+
+    // The activity digits of a frame, from where they start: a part of the log's text.
+    #[tactic(auto, using(crate::proofs::laws::IndexedFrames::found))]
+    pub fn digits(&self, frame: usize, start: usize) -> &'a [u8]
+        requires { (frame < length (frames_of self.now.text.now))
+            × (start ≡ digits_start self.now.text.now frame) }
         ensures { result.now ≡ activity_digits (frame_at self.now.text.now frame) }
     {
-        let start = self.digits_start(frame);
         // in 16 bits, so that the compiler knows how few they are and takes two events in a turn
         let digits = (self.index[frame].end as usize - start) as u16;
         &self.text[start..start + usize::from(digits)]

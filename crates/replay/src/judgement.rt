@@ -41,9 +41,12 @@ pub fn count_cases(log: &IndexedLog, from: usize, to: usize, place: Place) -> Ca
 {
     let sets = DigitSets::from(place);
     let mut counts = [0u64; VERDICTS];
+    // a range that ends before it begins has no frames, and may begin beyond the log
+    let mut start = log.digits_start(from.min(to));
     for frame in from..to {
-        let tokens = replay_trace(log.digits(frame), sets);
+        let tokens = replay_trace(log.digits(frame, start), sets);
         add_cases(&mut counts, tokens, log.cases(frame));
+        start = log.next_start(frame);
     }
     let [fitting, underfed, overfed, both] = counts;
     CaseCounts {

@@ -3,6 +3,7 @@
 -- and the frame's own count. So the digits between the two are the frame's.
 -- Assumes nothing.
 use Prim.Native.Nat.{ℕ, zero, suc, ◌+◌, ◌-◌, ◌*◌, ◌^◌, ◌≤◌, ◌<◌}
+use native.Mathlib.Numerals.{add-one}
 use native.Mathlib.Omega.{arith}
 use mathlib.Core.Path.{◌≡◌, refl, ap, ◌∙◌}
 use mathlib.Core.List.{List, [], ◌∷◌, ◌++◌, flat_map}
@@ -102,9 +103,9 @@ module _ {text : List ℕ} {index : List IndexedFrame} (i : Indexed text index) 
   end_found = omega (arith, found_entry.ends)
 
   -- the next frame's digits start after its line feed and a count
-  next_found : (get_or index line none).end + 1 + count_digits ≡ digits_start text (suc line)
+  pub next_found : (get_or index line none).end + 1 + count_digits ≡ digits_start text (line + 1)
   unfolding digits_start
-  next_found = omega (arith, found_entry.ends, start_after (frames_of text) line less)
+  next_found = rw (add-one line) (omega (arith, found_entry.ends, start_after (frames_of text) line less))
 
   pub digits_onward : digits_start text line ≤ (get_or index line none).end
   digits_onward = omega (arith, end_found)
@@ -136,16 +137,11 @@ pub first_start : (text : List ℕ) → count_digits ≡ digits_start text 0
 unfolding digits_start flat_map
 first_start text = refl
 
--- and those of a later one after the line feed of the one before, and a count
-pub later_start : {text : List ℕ} {index : List IndexedFrame} → Indexed text index → (line : ℕ) (none : IndexedFrame) → (line ≡ 0 → ⊥)
-    → line < length (frames_of text)
-    → (get_or index (line - 1) none).end + 1 + count_digits ≡ digits_start text line
-later_start i zero none other less = absurd (other refl)
-later_start i (suc line) none other less =
-    let same : suc line - 1 ≡ line = omega arith in
-    rw same (next_found i line none (omega arith))
+-- a later frame is the one after the frame before
+pub later_start : (text : List ℕ) (line : ℕ) → (line ≡ 0 → ⊥) → digits_start text (line - 1 + 1) ≡ digits_start text line
+later_start text line other = let same : line - 1 + 1 ≡ line = omega arith in rw same
 
-pub ruleset found = (index_length, cases_found, digits_onward, digits_few, digits_inside, digits_found, first_start, later_start)
+pub ruleset found = (index_length, cases_found, next_found, digits_onward, digits_few, digits_inside, digits_found, first_start, later_start)
 
 -- the first frame without an index: its digits are those from the count to the line feed
 pub record FirstDigits (text : List ℕ) : Type 0 where

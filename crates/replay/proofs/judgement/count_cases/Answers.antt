@@ -1,13 +1,13 @@
 -- `replay::judgement::count_cases` meets its contract: from no frame on, one frame more adds its
--- cases to the count of its trace's verdict. Its digits are few enough to be replayed, and its cases
--- can be added.
+-- cases to the count of its trace's verdict, and its end says where the next one's digits start. Its
+-- digits are few enough to be replayed, and its cases can be added.
 -- Assumes nothing.
 use Prim.Native.Nat.{◌<◌}
 use native.Mathlib.Omega.{arith}
-use mathlib.Core.Path.{sym, ◌∙◌}
+use mathlib.Core.Path.{◌≡◌, sym, ap, ◌∙◌}
 use lib.ListN.{length}
 use Rattle.event_log_spec.specs.Lines.{frames_of}
-use Rattle.event_log.specs.FrameIndex.{frame_at, frames_between}
+use Rattle.event_log.specs.FrameIndex.{digits_start, frame_at, frames_between}
 use Rattle.event_log.proofs.laws.IndexedFrames.{frame_under}
 use Rattle.event_log.proofs.laws.FrameRanges.{frames_none, frames_more}
 use Rattle.replay_spec.specs.Judgement.{case_counts}
@@ -16,7 +16,13 @@ use Rattle.replay.proofs.laws.FrameReplay.{frame_digits, cases_fit}
 use Rattle.replay.proofs.judgement.count_cases.Goals as goal
 
 pub loop-frame-init : goal.loop-frame-init
-loop-frame-init c = (omega arith, rw (frames_none c.args.log.now.text.now c.args.from) (sym (counts_none c.args.place)))
+loop-frame-init c =
+    let text = c.args.log.now.text.now in (
+      omega arith,
+      rw (frames_none text c.args.from) (sym (counts_none c.args.place)),
+      λ onward. let first : c.min.result ≡ c.args.from = omega (arith, c.min.ensures, onward) in
+          c.digits_start-start.ensures ∙ ap (digits_start text) first,
+    )
 
 pub replay_trace-tokens-requires : goal.replay_trace-tokens-requires
 replay_trace-tokens-requires c =
@@ -53,4 +59,5 @@ loop-frame-preserved c =
             frames_more text c.args.from frame c.loop-frame.auto.frame less,
           )
           (sym (counts_more c.args.place (frames_between c.args.from frame text) (frame_at text frame))),
+      λ onward. c.next_start-start.ensures,
     )
