@@ -27,16 +27,15 @@ use Rattle.limits.proofs.laws.AnswerNumbers.{answer_accepted}
 use Rattle.event_log_spec.specs.declared.LogSize.{LogSize}
 use Rattle.hex_digits.specs.Digits.{read_hex}
 use Rattle.hex_digits.proofs.laws.DigitsFromFront.{read_snoc}
-use Rattle.event_log_spec.specs.Frames.{FrameUnder, Behaviour, shortest_frame}
+use Rattle.event_log_spec.specs.Frames.{Frame, FrameUnder, Behaviour, count_digits, shortest_frame}
 use Rattle.event_log_spec.specs.Lines.{Line, lines, first_line, read_pairs, frame_with, frame_of, frames_with}
 use Rattle.event_log_spec.specs.Checking.{malformed, malformed_with, endpoint_misplaced, line_fault, lines_fault, lines_fault_with, text_fault_with, checked, checked_with}
 use Rattle.event_log_spec.proofs.laws.Lines.{lines_step}
 use Rattle.event_log_spec.proofs.laws.LineFaults.{NamesLine, FaultOrder, line_malformed, endpoint_misplaced_lem, no_fault, fault_order}
-use Rattle.event_log_spec.proofs.laws.FrameLines.{WellFormed, well_formed, not_malformed, no_fault_framed}
-use Rattle.event_log_spec.proofs.laws.PairLaws.{length_read_pairs}
+use Rattle.event_log_spec.proofs.laws.FrameLines.{WellFormed, well_formed, not_malformed, trace_length, no_fault_framed}
 use Rattle.replay_spec.specs.Answers.{first_trace_with}
 use Rattle.event_log_spec.proofs.laws.TraceLaws.{none_unknown}
-use Rattle.event_log_spec.proofs.laws.FirstFault.{line_at, refused_exactly}
+use Rattle.event_log_spec.proofs.laws.FirstFault.{refused_exactly}
 use Rattle.event_log_spec.proofs.laws.LogChecks.{LogPasses, bound_passes, log_passes}
 use Rattle.padded_logs.specs.Padding.{former_count_digits, padded_line, padded}
 use Rattle.padded_logs.specs.NeverMisread.{former_trace, RefusedAtFirst, too_short, misplaced, NeverMisread}
@@ -81,9 +80,8 @@ module _ (A : ℕ) (l : Line) (formed : WellFormed (padded_line l)) (under : Fra
   abbrev trace : List ℕ
   trace = (frame_with former_count_digits l).trace
 
-  former_length : length trace ≡ (length l.bytes - 4) / 2
-  unfolding frame_with
-  former_length = rw (length_read_pairs (drop 4 l.bytes), length-drop 4 l.bytes)
+  former_length : length trace ≡ (length (padded_line l).bytes - count_digits) / 2
+  former_length = ap (λ (f : Frame). length f.trace) (sym (frame_padded l)) ∙ trace_length (padded_line l)
 
   count_left : 1 ≤ (frame_of l).cases
   unfolding frame_with
@@ -128,10 +126,6 @@ module _ (A : ℕ) (l : Line) (formed : WellFormed (padded_line l)) (under : Fra
       (rw left (rest_misplaced trace under.behaviour many)))))
       (λ f. let few : length trace ≤ 3 = omega (arith, leb-false 4 (length trace) f) in
       short_line few ((fault_order A 0 l _).1 (line_malformed (lit< tt) (still_short few))))
-
--- the lines of a text with a byte begin with its first line
-first_of_lines : (text : List ℕ) → 1 ≤ length text → line_at (lines text) 0 ≡ first_line text
-first_of_lines text some = rw (lines_step text some)
 
 -- an accepted text of four-digit counts, seen as the padded text that is accepted at eight
 module _ (A : ℕ) (text : List ℕ) (size : LogSize) (accepted : checked_with former_count_digits A text ≡ Ok size) where
@@ -178,13 +172,14 @@ module _ (A : ℕ) (text : List ℕ) (size : LogSize) (accepted : checked_with f
   in_range = (bound_passes A).0 passes.settings_pass
 
   refused_first : (r : Refusal) → NamesLine 0 r → line_fault A 0 (first_line text) ≡ Some r → checked A text ≡ Err r
+  unfolding first_line
   refused_first r names faulty =
       (refused_exactly A text r in_range some_byte).1
       (record {
         index = 0;
         there = rw (lines_step text some_byte) (omega arith);
         sound_before = λ j less. absurd (omega arith);
-        faulty = rw (first_of_lines text some_byte) faulty;
+        faulty = faulty;
         names = names;
       })
 
