@@ -44,10 +44,13 @@
  *   run in several threads at once, and a text or list that is only read may be given to all of them.
  *
  * The stack
- *   A call takes at most PLACELIST_MOST_STACK bytes of the stack of the thread that makes it. That is
- *   measured, not proved: check, replay and write take less than 200, reduce 26,300, judge and search
- *   33,200, report 74,300. library/tests/stack.c measures it again, on inputs that drive each call to
- *   its deepest, and the tests hold it to the constant.
+ *   A call takes at most PLACELIST_MOST_STACK bytes of the stack of the thread that makes it. That
+ *   is measured, not proved: check, replay and write take less than 200, reduce 26,300, judge and
+ *   search 33,200, report 74,300, summarize 99,500, of which 98,304 are its two work arrays, the
+ *   index of the log and a word for each frame. library/tests/stack.c measures it again, and the
+ *   tests hold it to the constant. Its inputs drive each call to its deepest, but for summarize,
+ *   which sorts: its depth depends on the order of the words, and is measured on 16 orders. The
+ *   constant leaves about 15,000 bytes above what was measured.
  *
  * The library is for x86-64 Linux, and needs nothing but the C library.
  */
@@ -70,7 +73,7 @@ extern "C" {
  * change, and is the number in the name of the shared object; the minor where something is added.
  */
 #define PLACELIST_VERSION_MAJOR 2
-#define PLACELIST_VERSION_MINOR 0
+#define PLACELIST_VERSION_MINOR 1
 #define PLACELIST_VERSION_PATCH 0
 #define PLACELIST_VERSION \
     (PLACELIST_VERSION_MAJOR * 65536 + PLACELIST_VERSION_MINOR * 256 + PLACELIST_VERSION_PATCH)
@@ -95,7 +98,7 @@ extern "C" {
 #define PLACELIST_PROGRAM_FOUND 4096 /* words of its list of found places */
 #define PLACELIST_PROGRAM_BUDGET 1000000 /* its replay budget */
 
-#define PLACELIST_MOST_STACK 81920 /* bytes of the stack that suffice for every call */
+#define PLACELIST_MOST_STACK 114688 /* bytes of the stack that suffice for every call */
 #define PLACELIST_EXPLAIN_BYTES 128 /* room that suffices for placelist_explain */
 
 /* ---- Numbers ---- */
@@ -119,8 +122,9 @@ extern "C" {
  *   8 [cramped]        the buffer to be written is too short. Value: 0
  *
  * Where several hold, the first of this order is answered: 1; 7; 8; 6; then what the first line with
- * a fault has, 5 for its index before 2, then 5 for its length, 3, 4. A call skips the checks of what
- * it is not given. placelist_reduce and placelist_write are given no activity bound; it is 16 there.
+ * a fault has, 5 for its index before 2, then 5 for its length, 3, 4. For placelist_summarize 8 comes
+ * last, as only a log without a fault says how much room it needs. A call skips the checks of what it
+ * is not given. placelist_reduce and placelist_write are given no activity bound; it is 16 there.
  */
 enum placelist_refusal {
     PLACELIST_NOT_REFUSED = 0,
@@ -163,6 +167,14 @@ enum placelist_case_index {
     PLACELIST_CASES_OVERFED = 2, /* overfed only */
     PLACELIST_CASES_BOTH = 3,
     PLACELIST_CASES_LENGTH = 4
+};
+
+/* What placelist_summarize writes for each variant: the words of an entry. */
+enum placelist_variant_index {
+    PLACELIST_VARIANT_FIRST_LINE = 0,
+    PLACELIST_VARIANT_FRAMES = 1,
+    PLACELIST_VARIANT_CASES = 2,
+    PLACELIST_VARIANT_LENGTH = 3
 };
 
 /* What placelist_search writes into run. */
@@ -307,6 +319,32 @@ uint8_t placelist_replay(uint8_t activities, const uint8_t *text, size_t text_le
 uint8_t placelist_judge(uint8_t activities, uint16_t threshold, const uint8_t *text, size_t text_len,
                         uint16_t inputs, uint16_t outputs, uint64_t *value,
                         uint64_t counts[PLACELIST_CASES_LENGTH], uint8_t *verdict);
+
+/*
+ * Summarizes a log by its variants [kinds]: how many there are, and of each where it begins, how
+ * many frames and how many cases it has. Two frames are of one variant when each activity occurs
+ * equally often in both; the order of the activities is ignored.
+ *
+ *   activities       the activity bound
+ *   text, text_len   the log, and its bytes
+ *   entries,         receives an entry of PLACELIST_VARIANT_LENGTH words for each variant, from the
+ *   entries_len      front: the first line that is of the variant; its frames, the number of lines that
+ *                    are of it; its cases, the sum of their case counts. Variants with more cases come
+ *                    first; of two with as many cases, the one with the earlier first line. The frames
+ *                    of all entries add up to the frames of the log, and the cases to its cases [N].
+ *                    There is room for entries_len / PLACELIST_VARIANT_LENGTH entries, rounded
+ *                    down; PLACELIST_VARIANT_LENGTH * PLACELIST_MOST_FRAMES words suffice for every
+ *                    log. Beyond the entries written it is unchanged, also in one or two words that
+ *                    are no whole entry
+ *   value            see the list of refusals
+ *   count            how many variants the log has, and so how many entries were written
+ *
+ * Refusals, in order: 1 (activities), 6, then of the first faulty line 5, 2, 3 or 4, then 8 (room for
+ * fewer entries than the log has variants; value 0).
+ */
+uint8_t placelist_summarize(uint8_t activities, const uint8_t *text, size_t text_len,
+                            uint64_t *entries, size_t entries_len, uint64_t *value,
+                            uint64_t *count);
 
 /*
  * Searches [walks] all places of at most so many inputs and outputs, and lists those that fit the log.

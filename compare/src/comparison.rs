@@ -10,6 +10,7 @@ pub mod places;
 mod process;
 pub mod programs;
 pub mod searches;
+pub mod summaries;
 mod tally;
 
 pub use calls::{Comparison, Sizes};

@@ -37,6 +37,15 @@ struct Left<A> {
     kept: Vec<u32>,
 }
 
+/// An answer, and all words of the buffer after it.
+type Summary = (Result<usize, Refusal>, Vec<u64>);
+
+fn summarize(reader: Reader, activities: u8, text: &[u8], room: usize) -> Summary {
+    let mut entries = vec![u64::MAX; room];
+    let answer = reader.summarize(activities, text, &mut entries);
+    (answer, entries)
+}
+
 fn search(reader: Reader, settings: Settings, text: &[u8], sizes: Sizes) -> Left<Run> {
     let mut rejected = vec![u64::MAX; sizes.rejected];
     let mut found = vec![u32::MAX; sizes.found];
@@ -113,6 +122,13 @@ impl Padded {
         self.same(search(BEFORE, settings, text, sizes), now)
     }
 
+    /// `room` is the words of the buffer.
+    fn summarize(&mut self, activities: u8, text: &[u8], room: usize) -> Summary {
+        self.library.summarize("summarize", activities, text, room);
+        let now = summarize(READER, activities, &padded_log(ZEROS, text), room);
+        self.same(summarize(BEFORE, activities, text, room), now)
+    }
+
     /// The library has no such call of its own.
     fn list(&self, settings: Settings, text: &[u8], sizes: Sizes) -> Left<Listing> {
         let now = list(READER, settings, &padded_log(ZEROS, text), sizes);
@@ -127,12 +143,13 @@ impl Padded {
         self.same(BEFORE.program_text(input), READER.program_text(&padded))
     }
 
-    /// Every call on one text.
+    /// Every call on one text. The buffer of the summary is as long as the cache of the search.
     fn all(&mut self, settings: Settings, text: &[u8], place: Place, sizes: Sizes) {
         let (activities, threshold) = (settings.activities, settings.threshold);
         let _ = self.check(activities, text);
         let _ = self.replay(activities, text, place);
         let _ = self.judge(activities, threshold, text, place);
+        let _ = self.summarize(activities, text, sizes.rejected);
         self.search(settings, text, sizes);
         self.list(settings, text, sizes);
         self.program(&[&settings_line(settings), text].concat());
@@ -203,6 +220,13 @@ fn m7_stays() {
             Ok(judgement)
         );
     }
+}
+
+#[test]
+fn the_summary_of_m7_stays() {
+    let mut padded = Padded::new();
+    let entries = vec![0, 2, 58, 2, 2, 42, u64::MAX];
+    assert_eq!(padded.summarize(6, FOUR_TRACES, 7), (Ok(2), entries));
 }
 
 #[test]

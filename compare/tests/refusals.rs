@@ -1,7 +1,7 @@
 //! The refusals of the written scope and their order, on the second implementation.
 
 use compare::model::{
-    check, judge, program_text, reduce, replay, search, write, Place, Refusal, Settings,
+    check, judge, program_text, reduce, replay, search, summarize, write, Place, Refusal, Settings,
 };
 
 const LOG: &[u8] = b"00000001000201\n";
@@ -138,6 +138,32 @@ fn lines_and_logs_are_limited() {
             Refusal::TooLarge { line: 4096 }
         );
     }
+}
+
+#[test]
+fn a_short_summary_comes_after_the_text() {
+    let refused = |activities, text: &[u8]| summarize(activities, text, &mut [0; 2]).unwrap_err();
+    assert_eq!(refused(1, b""), Refusal::InvalidSetting);
+    assert_eq!(refused(17, LOG), Refusal::InvalidSetting);
+    assert_eq!(refused(3, b""), Refusal::EmptyLog);
+    for (line, refusal) in [
+        ("\n", Refusal::MalformedFrame { line: 1 }),
+        ("00000001000301\n", Refusal::UnknownActivity { line: 1 }),
+        ("000000010002\n", Refusal::MisplacedEndpoint { line: 1 }),
+        (&line(255), Refusal::TooLarge { line: 1 }),
+        ("000000010001\n", Refusal::BufferTooSmall),
+        ("", Refusal::BufferTooSmall),
+    ] {
+        assert_eq!(refused(3, &[LOG, line.as_bytes()].concat()), refusal);
+    }
+    let text = line(2).repeat(4096);
+    assert_eq!(refused(2, text.as_bytes()), Refusal::BufferTooSmall);
+    let text = text + "0";
+    assert_eq!(
+        refused(2, text.as_bytes()),
+        Refusal::TooLarge { line: 4096 }
+    );
+    assert_eq!(summarize(3, LOG, &mut [0; 3]), Ok(1));
 }
 
 #[test]

@@ -1,9 +1,10 @@
 """The places of a case log, from a library that is proved.
 
 A *place* has a set of input activities, which each put a token in, and a set of output activities,
-which each take one out. This module checks a log, replays and judges a place on it, searches all
-places that the log fits, reduces a list of places and writes it. Every call of the library is
-proved to answer what its written scope says; this module hands arguments and answers over.
+which each take one out. This module checks a log, replays and judges a place on it, summarizes its
+variants, searches all places that the log fits, reduces a list of places and writes it. Every call
+of the library is proved to answer what its written scope says, whose own word for a thing stands in
+brackets; this module hands arguments and answers over.
 
 An activity is a code from 0 to 15: 0 is the start of a case, 1 its end. A set is a number of 16
 bits, with the bit `1 << code` for each activity. A log is bytes, a frame for each line: eight
@@ -23,6 +24,8 @@ b'00010002\\n00040002\\n00010004\\n'
 ({0}, {1})
 >>> judge(3, 0, log, kept[0]).fitting
 1
+>>> summarize(3, log)
+[Variant(first_line=0, frames=1, cases=1)]
 >>> check(2, log)
 Traceback (most recent call last):
     ...
@@ -59,8 +62,9 @@ __all__ = [
     "MOST_INPUT", "MOST_OUTPUT", "PROGRAM_REJECTED", "PROGRAM_FOUND", "PROGRAM_BUDGET",
     "MOST_STACK",
     "Verdict", "End", "RefusalKind", "Refusal",
-    "Settings", "Place", "LogSize", "Balances", "Judgement", "Rejected", "Run", "Version", "Log",
-    "check", "replay", "judge", "search", "reduce", "write", "report", "version",
+    "Settings", "Place", "LogSize", "Balances", "Judgement", "Variant", "Rejected", "Run",
+    "Version", "Log",
+    "check", "replay", "judge", "summarize", "search", "reduce", "write", "report", "version",
 ]
 
 # ---- Limits ----
@@ -83,7 +87,7 @@ PROGRAM_REJECTED = 1024  # rejected places that it remembers
 PROGRAM_FOUND = 4096  # places in its list
 PROGRAM_BUDGET = 1000000  # its replay budget
 
-MOST_STACK = 81920  # bytes of a thread's stack that suffice for every call of the library
+MOST_STACK = 114688  # bytes of a thread's stack that suffice for every call of the library
 
 # The largest numbers of the C types.
 _BYTE = 0xFF
@@ -256,6 +260,16 @@ class Judgement(NamedTuple):
     verdict: Verdict
 
 
+class Variant(NamedTuple):
+    """A variant [kind] of a log: the frames in which each activity occurs equally often. The order
+    of the activities is ignored.
+    """
+
+    first_line: int  # the first line that is of this variant
+    frames: int  # the number of lines that are of it
+    cases: int  # the sum of their case counts
+
+
 class Rejected(NamedTuple):
     """A rejected place, and why."""
 
@@ -308,6 +322,7 @@ _PARAMETERS = {
     "check": (c_uint8, *_TEXT, _LONGS, _LONGS),
     "replay": (c_uint8, *_TEXT, *_SETS, _LONGS, _SHORT, _SHORT),
     "judge": (c_uint8, c_uint16, *_TEXT, *_SETS, _LONGS, _LONGS, _BYTES),
+    "summarize": (c_uint8, *_TEXT, _LONGS, c_size_t, _LONGS, _LONGS),
     "search": (c_uint8, c_uint8, c_uint8, c_uint16, *_TEXT, c_uint32, _LONGS, c_size_t, *_LIST,
                _LONGS, _LONGS),
     "reduce": (*_LIST, *_LIST, _LONGS, _LONGS),
@@ -476,6 +491,33 @@ def judge(activities: int, threshold: int, log: Log, place: Place) -> Judgement:
     )
     _accept(number, value)
     return Judgement(*counts, Verdict(verdict.value))
+
+
+def summarize(activities: int, log: Log) -> List[Variant]:
+    """Summarizes a log by its variants, the frames in which each activity occurs equally often.
+
+    Variants with more cases come first; of two with as many cases, the one with the earlier first
+    line. The frames of all of them add up to those of the log, and so do the cases.
+
+    Refusals, in order: 1, 6, then of the first faulty line 5, 2, 3 or 4. Number 8 is never given
+    here, since this module makes the buffer itself.
+
+    >>> for variant in summarize(4, b"0000000100020301\\n000000030001\\n0000000400030201\\n"):
+    ...     print(variant)
+    Variant(first_line=0, frames=2, cases=5)
+    Variant(first_line=1, frames=1, cases=3)
+    """
+    text = _bytes(log)
+    length = len(Variant._fields)
+    room = min(text.count(b"\n"), MOST_FRAMES)
+    entries = (c_uint64 * (length * room))()
+    value, count = c_uint64(), c_uint64()
+    number = _library.placelist_summarize(
+        _setting(activities, _BYTE), text, len(text), entries, len(entries),
+        byref(value), byref(count),
+    )
+    _accept(number, value)
+    return [Variant(*entries[at:at + length]) for at in range(0, length * count.value, length)]
 
 
 def search(

@@ -1,8 +1,8 @@
 /*
- * Every call of the header once, on worked cases of document 01: that the header declares what the
- * library has. Then large case counts, frames about as short and as long as they can be, the case
- * counts of version 1, null pointers for buffers of length 0, the version and the words of the
- * refusals. C99 and C++. Says which line failed; the exit status is 0 only if none did.
+ * Every call of the header once, on worked cases, most of them of document 01: that the header
+ * declares what the library has. Then large case counts, frames about as short and as long as they
+ * can be, the case counts of version 1, null pointers for buffers of length 0, the version and the
+ * words of the refusals. C99 and C++. Says which line failed; the exit status is 0 only if none did.
  */
 #include <stdio.h>
 #include <string.h>
@@ -61,6 +61,37 @@ static void judge(void)
     EXPECT(value == 2);
 }
 
+/* That an entry has these words. */
+static void expect_entry(int line, const uint64_t *entry, uint64_t first_line, uint64_t frames,
+                         uint64_t cases)
+{
+    expect(line, entry[PLACELIST_VARIANT_FIRST_LINE] == first_line);
+    expect(line, entry[PLACELIST_VARIANT_FRAMES] == frames);
+    expect(line, entry[PLACELIST_VARIANT_CASES] == cases);
+}
+
+/* three variants: two frames of one in two orders, then two with as many cases as one another */
+static void summarize(void)
+{
+    static const uint8_t log[] = "00000002000301\n00000001000202030301\n00000002000201\n"
+                                 "00000003000302030201\n";
+    uint64_t value = 99, count = 99, entries[11];
+    memset(entries, 99, sizeof entries);
+    const uint64_t old = entries[0];
+    EXPECT(placelist_summarize(3, log, sizeof log - 1, entries, 8, &value, &count)
+           == PLACELIST_UNKNOWN_ACTIVITY);
+    EXPECT(value == 0 && count == 99);
+    EXPECT(placelist_summarize(4, log, sizeof log - 1, entries, 8, &value, &count)
+           == PLACELIST_BUFFER_TOO_SMALL);
+    EXPECT(value == 0 && count == 99 && entries[0] == old && entries[7] == old);
+    EXPECT(placelist_summarize(4, log, sizeof log - 1, entries, 11, &value, &count)
+           == PLACELIST_NOT_REFUSED);
+    EXPECT(value == 0 && count == 3 && entries[9] == old && entries[10] == old);
+    expect_entry(__LINE__, entries, 1, 2, 4);
+    expect_entry(__LINE__, entries + PLACELIST_VARIANT_LENGTH, 0, 1, 2);
+    expect_entry(__LINE__, entries + 2 * PLACELIST_VARIANT_LENGTH, 2, 1, 2);
+}
+
 /* M11 and M12 */
 static void search_reduce_and_write(void)
 {
@@ -109,6 +140,17 @@ static void report(void)
     EXPECT(memcmp(output, expected, sizeof expected - 1) == 0);
 }
 
+/* That the two variants of a log have so many cases. */
+static void expect_variants(int line, const char *log, uint64_t more, uint64_t fewer)
+{
+    uint64_t value = 99, count = 99, entries[2 * PLACELIST_VARIANT_LENGTH];
+    expect(line, placelist_summarize(3, (const uint8_t *)log, strlen(log), entries,
+                                     2 * PLACELIST_VARIANT_LENGTH, &value, &count)
+                     == PLACELIST_NOT_REFUSED);
+    expect(line, value == 0 && count == 2 && entries[PLACELIST_VARIANT_CASES] == more);
+    expect(line, entries[PLACELIST_VARIANT_LENGTH + PLACELIST_VARIANT_CASES] == fewer);
+}
+
 /*
  * That a log of cases 0, 2, 1 and of cases 0, 1 has so many of each. The first fit the place
  * 0001/0004, the second overfeed it. The threshold is the least at which it is not overfed.
@@ -130,6 +172,7 @@ static void expect_cases(int line, const char *log, uint64_t first, uint64_t sec
     expect(line, below == PLACELIST_OVERFED && at == PLACELIST_FITTING);
     expect(line, counts[PLACELIST_CASES_FITTING] == first && counts[PLACELIST_CASES_UNDERFED] == 0);
     expect(line, counts[PLACELIST_CASES_OVERFED] == second && counts[PLACELIST_CASES_BOTH] == 0);
+    expect_variants(line, log, first < second ? second : first, first < second ? first : second);
 }
 
 /* case counts of more than 16 bits, and numbers of cases of more than 32 */
@@ -210,12 +253,13 @@ static void four_digit_case_counts(void)
 /* a null pointer for every buffer of length 0 */
 static void null_logs(void)
 {
-    uint64_t value = 99, counts[PLACELIST_CASES_LENGTH], run[PLACELIST_RUN_LENGTH];
+    uint64_t value = 99, count, counts[PLACELIST_CASES_LENGTH], run[PLACELIST_RUN_LENGTH];
     int16_t least, last;
     uint8_t verdict;
     EXPECT(placelist_check(3, NULL, 0, &value, counts) == PLACELIST_EMPTY_LOG);
     EXPECT(placelist_replay(3, NULL, 0, 1, 2, &value, &least, &last) == PLACELIST_EMPTY_LOG);
     EXPECT(placelist_judge(3, 0, NULL, 0, 1, 2, &value, counts, &verdict) == PLACELIST_EMPTY_LOG);
+    EXPECT(placelist_summarize(3, NULL, 0, NULL, 0, &value, &count) == PLACELIST_EMPTY_LOG);
     EXPECT(placelist_search(3, 2, 2, 0, NULL, 0, 9, NULL, 0, NULL, 0, &value, run)
            == PLACELIST_EMPTY_LOG);
     EXPECT(value == 0);
@@ -232,6 +276,8 @@ static void null_lists(void)
     EXPECT(placelist_search(3, 2, 2, 0, short_log, SHORT_LENGTH, 36, NULL, 0, NULL, 0, &value, run)
            == PLACELIST_NOT_REFUSED);
     EXPECT(run[PLACELIST_RUN_END] == PLACELIST_LIST_FULL);
+    EXPECT(placelist_summarize(3, short_log, SHORT_LENGTH, NULL, 0, &value, &count)
+           == PLACELIST_BUFFER_TOO_SMALL);
     EXPECT(placelist_reduce(NULL, 0, NULL, 0, &value, &count) == PLACELIST_NOT_REFUSED && count == 0);
     EXPECT(placelist_reduce(found, 1, NULL, 0, &value, &count) == PLACELIST_BUFFER_TOO_SMALL);
     count = 99;
@@ -260,6 +306,7 @@ int main(void)
 {
     check_and_replay();
     judge();
+    summarize();
     search_reduce_and_write();
     report();
     large_case_counts();

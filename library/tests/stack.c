@@ -1,9 +1,11 @@
 /*
  * Measures how deep each call goes into the stack, on inputs that drive it to its deepest: a log of
  * the largest size, and a list for which the reduction calls itself as often as it can, 16 times.
- * A call runs on a thread whose stack was painted before; what it took is what it painted over, less
- * what a thread takes that calls nothing. Writes a line for each call; the exit status is 0 only if
- * none takes more than PLACELIST_MOST_STACK.
+ * The summary sorts, and its depth depends on the order of the words: that one is measured on 16
+ * orders, and the constant leaves about 15,000 bytes above what was measured. A call runs on a
+ * thread whose stack was painted before; what it took is what it painted over, less what a thread
+ * takes that calls nothing. Writes a line for each call; the exit status is 0 only if none takes
+ * more than PLACELIST_MOST_STACK.
  */
 #define _XOPEN_SOURCE 700
 #include <pthread.h>
@@ -22,6 +24,8 @@ static size_t input_length;
 static uint8_t output[PLACELIST_MOST_OUTPUT];
 static uint64_t value, count, counts[PLACELIST_CASES_LENGTH], run[PLACELIST_RUN_LENGTH];
 static uint64_t rejected[PLACELIST_PROGRAM_REJECTED];
+static uint64_t entries[PLACELIST_VARIANT_LENGTH * PLACELIST_MOST_FRAMES];
+static uint64_t variants; /* of the log */
 static uint32_t words[PLACELIST_MOST_ACTIVITIES + 1], found[PLACELIST_PROGRAM_FOUND];
 static int16_t least, last;
 static uint8_t verdict, number;
@@ -46,6 +50,13 @@ static void call_replay(void)
 static void call_judge(void)
 {
     number = placelist_judge(16, 500, text, sizeof text, 1, 2, &value, counts, &verdict);
+}
+
+static void call_summarize(void)
+{
+    number = placelist_summarize(16, text, sizeof text, entries,
+                                 PLACELIST_VARIANT_LENGTH * PLACELIST_MOST_FRAMES, &value, &count);
+    number = count == variants ? number : 255;
 }
 
 static void call_search(void)
@@ -81,20 +92,36 @@ static const struct {
     { "write", call_write }, { "report", call_report },
 };
 
-/* Every frame as long as it can be. */
-static void fill_log(void)
+/*
+ * The digit of activity k of a frame between its ends. Twelve of the first fourteen say which of 4,096
+ * variants the frame is of, all others occur equally often in every frame.
+ */
+static uint8_t digit(uint32_t frame, uint32_t variant, uint32_t k)
+{
+    static const char digits[] = "23456789ABCDEF";
+    uint32_t code = k >= 14 ? (frame + 5 * k) % 14 : variant >> k & 1 ? k : 13;
+    return (uint8_t)digits[code];
+}
+
+/*
+ * Every frame as long as it can be. Variants and case counts have numbers from 0 to 4,095, each a
+ * step above the one before, modulo 4,096: by 0 all are the same, by an odd step all differ.
+ */
+static void fill_log(uint32_t variant_step, uint32_t cases_step)
 {
     uint8_t *at = text;
-    for (int frame = 0; frame < PLACELIST_MOST_FRAMES; frame++) {
-        memcpy(at, "FFFFFFFF00", 10);
-        at += 10;
-        for (int k = 0; k < PLACELIST_MOST_FRAME_ACTIVITIES - 2; k++) {
+    for (uint32_t frame = 0; frame < PLACELIST_MOST_FRAMES; frame++) {
+        uint32_t variant = frame * variant_step % PLACELIST_MOST_FRAMES;
+        uint32_t cases = UINT32_MAX - frame * cases_step % PLACELIST_MOST_FRAMES;
+        at += sprintf((char *)at, "%08" PRIX32 "00", cases);
+        for (uint32_t k = 0; k < PLACELIST_MOST_FRAME_ACTIVITIES - 2; k++) {
             *at++ = '0';
-            *at++ = (uint8_t)"23456789ABCDEF"[(frame + 5 * k) % 14];
+            *at++ = digit(frame, variant, k);
         }
         memcpy(at, "01\n", 3);
         at += 3;
     }
+    variants = variant_step == 0 ? 1 : PLACELIST_MOST_FRAMES;
 }
 
 /* A place of all activities, and sixteen that it is the union of. */
@@ -125,7 +152,10 @@ static void *run_call(void *call)
     return NULL;
 }
 
-/* How many bytes of a painted stack are written over by a thread that makes a call. */
+/*
+ * How many bytes of a painted stack are written over by a thread that makes a call, which has to
+ * answer.
+ */
 static size_t depth(uint8_t *stack, void (*call)(void))
 {
     pthread_attr_t attributes;
@@ -139,28 +169,55 @@ static size_t depth(uint8_t *stack, void (*call)(void))
         fprintf(stderr, "stack: no thread\n");
         exit(2);
     }
+    if (number != PLACELIST_NOT_REFUSED) {
+        fprintf(stderr, "stack: a call was refused\n");
+        exit(2);
+    }
     while (untouched < STACK_BYTES && stack[untouched] == PAINT) {
         untouched++;
     }
     return STACK_BYTES - untouched;
 }
 
+/*
+ * The most that a summary takes on 16 orders of the words that it sorts; another may take more.
+ * Variants and case counts each are the same in all frames, rise, fall, and are mixed.
+ */
+static size_t depth_of_summary(uint8_t *stack)
+{
+    static const uint32_t steps[] = { 0, 1, PLACELIST_MOST_FRAMES - 1, 1657 };
+    const size_t length = sizeof steps / sizeof steps[0];
+    size_t most = 0;
+    for (size_t i = 0; i < length * length; i++) {
+        fill_log(steps[i / length], steps[i % length]);
+        size_t bytes = depth(stack, call_summarize);
+        most = bytes > most ? bytes : most;
+    }
+    return most;
+}
+
+/* Writes what a call takes; whether the constant allows it. */
+static int allowed(const char *name, size_t bytes)
+{
+    printf("%-10s%7zu\n", name, bytes);
+    return bytes <= PLACELIST_MOST_STACK;
+}
+
 int main(void)
 {
     uint8_t *stack = (uint8_t *)aligned_alloc(4096, STACK_BYTES);
-    int within = stack != NULL;
-    if (!within) {
+    int within = 1;
+    if (stack == NULL) {
         return 2;
     }
-    fill_log();
+    fill_log(1, 0);
     fill_words();
     fill_input();
     size_t nothing = depth(stack, call_nothing);
     for (size_t i = 0; i < sizeof calls / sizeof calls[0]; i++) {
-        size_t bytes = depth(stack, calls[i].call) - nothing;
-        printf("%-8s%7zu\n", calls[i].name, bytes);
-        within = within && number == PLACELIST_NOT_REFUSED && bytes <= PLACELIST_MOST_STACK;
+        within = allowed(calls[i].name, depth(stack, calls[i].call) - nothing) && within;
     }
+    within = allowed("summarize", depth_of_summary(stack) - nothing) && within;
     free(stack);
     return within ? 0 : 1;
 }

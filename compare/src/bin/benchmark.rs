@@ -5,9 +5,10 @@
 //! It prints tables and judges nothing: no time makes it fail.
 
 use compare::generate::{
-    count_candidates, process_log, random_valid_list, text_of, LogShape, Random,
+    count_candidates, different_bags, log_of_bags, process_log, random_valid_list, text_of, Counts,
+    LogShape, Random,
 };
-use compare::model::{self, Place, Settings, COUNT_DIGITS, PLACE_BYTES};
+use compare::model::{self, Frame, Place, Settings, COUNT_DIGITS, PLACE_BYTES, VARIANT_LENGTH};
 use compare::table::{Speed, Table};
 use compare::timing::{measure, Effort, Times};
 use std::hint::black_box;
@@ -30,12 +31,15 @@ fn sample(activities: u8, frames: usize) -> Sample {
         repeats: 0,
         most_cases: 0xFFFF,
     };
-    let log = process_log(&mut Random::new(17), shape);
+    sample_of(activities, &process_log(&mut Random::new(17), shape))
+}
+
+fn sample_of(activities: u8, log: &[Frame]) -> Sample {
     Sample {
         activities,
-        frames,
+        frames: log.len(),
         events: log.iter().map(|frame| frame.trace.len()).sum(),
-        text: text_of(COUNT_DIGITS, &log),
+        text: text_of(COUNT_DIGITS, log),
     }
 }
 
@@ -79,6 +83,48 @@ fn judging(effort: Effort, samples: &[Sample]) {
         table.row(&input, sample.events, times);
     }
     table.end();
+}
+
+/// Summaries of growing logs: of one variant, of few, and of one for each frame.
+fn summarizing(effort: Effort) {
+    for activities in [8, 16] {
+        for (name, most_variants, counts) in [
+            ("one variant", 1, Counts::UpTo(0xFFFF)),
+            ("few variants", 8, Counts::UpTo(0xFFFF)),
+            ("a variant for each frame", 4000, Counts::Different),
+            (
+                "a variant for each frame, of equal cases",
+                4000,
+                Counts::Equal(1),
+            ),
+        ] {
+            let title = format!("Summarizing logs of {activities} activities, {name}");
+            let mut table = Table::new(&title, Speed::Nanoseconds("frame"));
+            for frames in [10, 100, 1000, 4000] {
+                let mut random = Random::new(23);
+                let variants = frames.min(most_variants);
+                let bags = different_bags(&mut random, activities, &(8..=18), variants);
+                let log = log_of_bags(&mut random, &bags, frames, counts);
+                summary_row(&mut table, effort, &sample_of(activities, &log));
+            }
+            table.end();
+        }
+    }
+}
+
+fn summary_row(table: &mut Table, effort: Effort, sample: &Sample) {
+    let (activities, frames, text) = (sample.activities, sample.frames, &sample.text[..]);
+    let mut entries = vec![0; VARIANT_LENGTH * frames];
+    let mut its_entries = entries.clone();
+    let times = measure(
+        effort,
+        || placelist::summarize(activities, black_box(text), &mut its_entries),
+        || model::summarize(activities, black_box(text), &mut entries),
+    );
+    let variants = model::summarize(activities, text, &mut entries).expect("a log and room");
+    let events = sample.events;
+    let input = format!("{frames} frames, {events} events, variants: {variants}");
+    table.row(&input, frames, times);
 }
 
 /// Whole searches, for growing logs and for growing numbers of candidates.
@@ -282,7 +328,9 @@ fn introduce(effort: Effort) {
     println!(
         "Every call starts from text: the Rust times of judging and searching include checking and"
     );
-    println!("decoding the log once, on which they then work.");
+    println!(
+        "decoding the log once, on which they then work; that of summarizing tallies the digits."
+    );
 }
 
 fn main() {
@@ -299,6 +347,7 @@ fn main() {
     introduce(effort);
     checking(effort, &samples);
     judging(effort, &samples);
+    summarizing(effort);
     searching(effort, quick);
     reducing(effort, lengths);
     reducing_others(effort);

@@ -3,7 +3,9 @@
 //!
 //!     differential [--seed N] [--rounds N] [--long] [PROGRAM]
 
-use compare::comparison::{lists, logs, places, programs, required, searches, Comparison};
+use compare::comparison::{
+    lists, logs, places, programs, required, searches, summaries, Comparison,
+};
 use compare::generate::Random;
 use compare::model::COUNT_DIGITS;
 use std::path::PathBuf;
@@ -52,6 +54,7 @@ fn run(options: &Options) -> Comparison {
     places::compare(&mut comparison, &mut random, rounds);
     searches::compare(&mut comparison, &mut random, rounds);
     lists::compare(&mut comparison, &mut random, rounds);
+    summaries::compare(&mut comparison, &mut random, rounds);
     programs::compare_reports(&mut comparison, &mut random, rounds);
     match &options.program {
         Some(path) => programs::compare_program(&mut comparison, &mut random, rounds, path),

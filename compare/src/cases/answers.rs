@@ -1,7 +1,9 @@
 //! What is written for an answer.
 
 use super::notation;
-use crate::model::{Balances, Judgement, Listing, LogSize, Refusal, Run, Verdict};
+use crate::model::{
+    Balances, Judgement, Listing, LogSize, Refusal, Run, Variant, Verdict, VARIANT_LENGTH,
+};
 
 /// An answer that can be written on lines of its own.
 pub trait Lines {
@@ -31,6 +33,15 @@ impl Lines for Judgement {
         format!(
             "  fitting {} underfed {} overfed {} both {} verdict {verdict}\n",
             self.fitting, self.underfed, self.overfed, self.both
+        )
+    }
+}
+
+impl Lines for Variant {
+    fn lines(&self) -> String {
+        format!(
+            "  first line {} frames {} cases {}\n",
+            self.first_line, self.frames, self.cases
         )
     }
 }
@@ -70,6 +81,16 @@ impl Lines for Kept {
     }
 }
 
+/// How many variants a log has.
+#[derive(Clone, Copy)]
+pub struct Variants(pub usize);
+
+impl Lines for Variants {
+    fn lines(&self) -> String {
+        format!("  variants {}\n", self.0)
+    }
+}
+
 /// How many bytes were written.
 #[derive(Clone, Copy)]
 pub struct Bytes(pub usize);
@@ -97,6 +118,16 @@ pub fn list_line(name: &str, buffer: &[u32]) -> String {
 /// The line of a cache.
 pub fn cache_line(buffer: &[u64]) -> String {
     format!("  cache{}\n", notation::words(buffer, 9))
+}
+
+/// The answer of a summary, the entries that it says were written, and the other words.
+pub fn summary_lines(answer: Result<usize, Refusal>, buffer: &[u64]) -> String {
+    let (entries, others) = buffer.split_at(VARIANT_LENGTH * answer.unwrap_or(0));
+    let mut written = lines(answer.map(Variants));
+    for variant in Variant::from_entries(entries) {
+        written += &variant.lines();
+    }
+    written + &format!("  others{}\n", notation::words(others, 9))
 }
 
 /// The answer of a call that writes a text, and the text.

@@ -1,6 +1,6 @@
 //! The calls that a line can name.
 
-use super::answers::{cache_line, lines, list_line, text_lines, Kept};
+use super::answers::{cache_line, lines, list_line, summary_lines, text_lines, Kept};
 use super::arguments::Arguments;
 use crate::model;
 
@@ -8,9 +8,11 @@ use crate::model;
 /// were read.
 const LIST_FILLER: u32 = 0x0000_EEEE;
 const CACHE_FILLER: u64 = 0x3_FFFF_0000;
+const ENTRY_FILLER: u64 = 0xEEEE_EEEE_EEEE_EEEE;
 const TEXT_FILLER: u8 = b'~';
 
 /// The lengths of the buffers, of which the front is lent.
+const ENTRIES: usize = 64;
 const CACHE: usize = 640;
 const LIST: usize = 2240;
 const REDUCED: usize = 4160;
@@ -25,6 +27,7 @@ pub fn answer(line: &str) -> Option<String> {
         "check" => check(arguments),
         "replay" => replay(arguments),
         "judge" => judge(arguments),
+        "summarize" => summarize(arguments),
         "search" => search(arguments),
         "reduce" => reduce(arguments),
         "write" => write(arguments),
@@ -53,6 +56,15 @@ fn judge(mut arguments: Arguments) -> Option<String> {
     let place = arguments.place()?;
     let answer = model::judge(activities, threshold, &arguments.text()?, place);
     Some(lines(answer))
+}
+
+fn summarize(mut arguments: Arguments) -> Option<String> {
+    let activities = arguments.number()?;
+    let room = arguments.room(ENTRIES)?;
+    let text = arguments.text()?;
+    let mut entries = [ENTRY_FILLER; ENTRIES];
+    let answer = model::summarize(activities, &text, &mut entries[..room]);
+    Some(summary_lines(answer, &entries))
 }
 
 fn search(mut arguments: Arguments) -> Option<String> {

@@ -58,6 +58,14 @@ pub fn word_pattern(plausible: bool) -> impl Fn(usize) -> u32 {
     }
 }
 
+/// Words of entries: in every second buffer ones that could be taken for counts.
+pub fn entry_pattern(plausible: bool) -> impl Fn(usize) -> u64 {
+    move |position| match plausible {
+        true => 1 + position as u64 % 3,
+        false => 0xFEED_FACE_0000_0000 + position as u64,
+    }
+}
+
 /// Rejected words: in every second buffer ones that would rule out much if they were read.
 pub fn rejected_pattern(plausible: bool) -> impl Fn(usize) -> u64 {
     move |position| match (plausible, position % 2) {

@@ -1,7 +1,7 @@
 //! One comparison for each call: its whole answer, and every element of its buffers.
 
 use super::answers::{of_library, of_model, Answer};
-use super::buffers::{byte_pattern, rejected_pattern, word_pattern, Guarded};
+use super::buffers::{byte_pattern, entry_pattern, rejected_pattern, word_pattern, Guarded};
 use super::{process, Tally};
 use crate::generate::{padded_input, padded_log};
 use crate::model::{self, Place, Reader, Settings, COUNT_DIGITS};
@@ -129,6 +129,26 @@ impl Comparison {
             let (text, word) = (show(text), place.word());
             let call = format!("judge(A {activities}, T {threshold}, {text}, place {word:08X})");
             format!("{call} is {actual:?}, expected {expected:?}")
+        });
+    }
+
+    /// The buffer has so many words.
+    pub fn summarize(&mut self, kind: &'static str, activities: u8, text: &[u8], room: usize) {
+        self.plausible = !self.plausible;
+        let mut entries = Guarded::new(room, entry_pattern(self.plausible));
+        let mut its_entries = entries.clone();
+        let answer = self.reader.summarize(activities, text, entries.inside());
+        let expected = of_model(answer);
+        let mut given = self.given_log(text);
+        let before = given.clone();
+        let answer = placelist::summarize(activities, given.inside(), its_entries.inside());
+        let actual = of_library(answer);
+        let same = actual == expected && its_entries == entries && given == before;
+        self.reach("summarize", &expected, "answered");
+        self.tally.record(kind, same, || {
+            let call = format!("summarize(A {activities}, {}, room {room})", show(text));
+            let entries = its_entries.difference(&entries);
+            format!("{call} is {actual:?}, expected {expected:?}; entries {entries}")
         });
     }
 

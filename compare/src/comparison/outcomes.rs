@@ -13,6 +13,8 @@ pub fn required(with_program: bool) -> Vec<Outcome> {
         ("check", answered(), 1..=6),
         ("replay", answered(), 1..=7),
         ("judge", answered(), 1..=7),
+        ("summarize", answered(), 1..=6),
+        ("summarize", vec![], 8..=8),
         ("search", numbered("end ", 0..=2), 1..=6),
         ("reduce", answered(), 7..=8),
         ("write", answered(), 7..=8),

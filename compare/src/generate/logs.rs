@@ -92,12 +92,12 @@ fn disturb(random: &mut Random, activities: u8, inner: &mut Vec<u8>) {
 }
 
 /// An activity that may stand inside a frame, for a bound above 2.
-fn random_step(random: &mut Random, activities: u8) -> u8 {
+pub fn random_step(random: &mut Random, activities: u8) -> u8 {
     random.between(2, usize::from(activities) - 1) as u8
 }
 
 /// A frame with the start before and the end after these activities.
-fn frame(cases: u64, mut inner: Vec<u8>) -> Frame {
+pub fn frame(cases: u64, mut inner: Vec<u8>) -> Frame {
     inner.truncate(MOST_EVENTS - 2);
     inner.insert(0, 0);
     inner.push(1);
@@ -108,7 +108,7 @@ fn frame(cases: u64, mut inner: Vec<u8>) -> Frame {
 }
 
 /// A count up to `most`, often a small one.
-fn random_count(random: &mut Random, most: u64) -> u64 {
+pub fn random_count(random: &mut Random, most: u64) -> u64 {
     match random.below(8) {
         0 => 1,
         1 => most,
@@ -118,7 +118,7 @@ fn random_count(random: &mut Random, most: u64) -> u64 {
 }
 
 /// A greatest count: of four digits, of all eight, and with nothing in the lower four.
-fn random_most_cases(random: &mut Random) -> u64 {
+pub fn random_most_cases(random: &mut Random) -> u64 {
     random.pick(&[
         0xFFFF,
         0x1_0000,

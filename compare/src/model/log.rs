@@ -62,7 +62,7 @@ pub fn measure(count_digits: usize, activities: u8, text: &[u8]) -> Result<LogSi
 }
 
 /// The checked frames of a log: case count and digits of the activities.
-fn frames(
+pub fn frames(
     count_digits: usize,
     activities: u8,
     text: &[u8],

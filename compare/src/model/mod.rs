@@ -11,6 +11,7 @@ mod reduction;
 mod refusal;
 mod search;
 mod settings;
+mod summary;
 
 pub use judging::{Balances, Judgement, Verdict};
 pub use listing::{Listing, MOST_INPUT, MOST_OUTPUT, PLACE_BYTES};
@@ -20,6 +21,7 @@ pub use reader::Reader;
 pub use refusal::Refusal;
 pub use search::{End, Run};
 pub use settings::{Settings, MOST_ACTIVITIES};
+pub use summary::{Variant, VARIANT_LENGTH};
 
 /// Reads the frames of the scope.
 pub const READER: Reader = Reader {
@@ -44,6 +46,11 @@ pub fn judge(
     place: Place,
 ) -> Result<Judgement, Refusal> {
     READER.judge(activities, threshold, text, place)
+}
+
+/// Writes an entry for each variant of a log.
+pub fn summarize(activities: u8, text: &[u8], entries: &mut [u64]) -> Result<usize, Refusal> {
+    READER.summarize(activities, text, entries)
 }
 
 /// Searches the fitting candidates.

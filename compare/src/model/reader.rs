@@ -6,8 +6,10 @@ use super::log::measure;
 use super::place::check_place;
 use super::search::search_log;
 use super::settings::{check_activities, check_threshold};
+use super::summary::variants;
 use super::{
     reduce, Balances, End, Judgement, Listing, Log, LogSize, Place, Refusal, Run, Settings,
+    VARIANT_LENGTH,
 };
 
 /// Reads logs whose frames have so many digits of case count.
@@ -44,6 +46,24 @@ impl Reader {
         check_place(activities, place)?;
         let log = Log::parse(self.count_digits, activities, text)?;
         Ok(judge_log(&log, threshold, place))
+    }
+
+    /// Writes an entry for each variant of a log.
+    pub fn summarize(
+        self,
+        activities: u8,
+        text: &[u8],
+        entries: &mut [u64],
+    ) -> Result<usize, Refusal> {
+        check_activities(activities)?;
+        let variants = variants(self.count_digits, activities, text)?;
+        if entries.len() / VARIANT_LENGTH < variants.len() {
+            return Err(Refusal::BufferTooSmall);
+        }
+        for (entry, variant) in entries.chunks_exact_mut(VARIANT_LENGTH).zip(&variants) {
+            entry.copy_from_slice(&variant.entry());
+        }
+        Ok(variants.len())
     }
 
     /// Searches the fitting candidates.

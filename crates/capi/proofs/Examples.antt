@@ -15,6 +15,7 @@ use Rattle.discovery_spec.specs.declared.Run.{Run}
 use Rattle.places.specs.Places.{place, word}
 use Rattle.event_log_spec.specs.Checking.{checked}
 use Rattle.replay_spec.specs.Answers.{replayed, judged}
+use Rattle.variants_spec.specs.Summary.{summarized, summary_after}
 use Rattle.discovery_spec.specs.Search.{holding}
 use Rattle.discovery_spec.specs.Discovery.{discovered}
 use Rattle.reduction_spec.specs.Reduction.{reduced}
@@ -47,6 +48,10 @@ no_place = replayed 4 log (place 0 1)
 abbrev judging : ℕ → Result Judgement Refusal
 judging T = judged 4 T log (place 4 2)
 
+-- two variants, of a frame each
+abbrev summarizing : ℕ → Result ℕ Refusal
+summarizing words = summarized 4 log words
+
 abbrev searching : ℕ → Result Run Refusal
 searching A = discovered (settings_of A 3 1 0) (bytes "000000010001\n") (holding 9 9 99)
 
@@ -78,6 +83,11 @@ pub record Examples : Type 0 where
   pub verdicts : map (λ (T : ℕ). verdict_after (judging T) 9) (333 ∷ 334 ∷ 1001 ∷ []) ≡ 1 ∷ 0 ∷ 9 ∷ []
   pub judge_refused : said (judging 1001) ≡ 1 ∷ 0 ∷ []
   pub counts_as_found : counts_after (judging 1001) (7 ∷ 7 ∷ 8 ∷ 8 ∷ []) ≡ 7 ∷ 7 ∷ 8 ∷ 8 ∷ []
+  pub summarizes : said (summarizing 6) ≡ 0 ∷ 0 ∷ []
+  pub entries : count_after (summarizing 6) 7 ≡ 2
+  pub summary : summary_after 4 log (7 ∷ 7 ∷ 8 ∷ 8 ∷ 9 ∷ 9 ∷ 9 ∷ []) ≡ 0 ∷ 1 ∷ 2 ∷ 1 ∷ 1 ∷ 1 ∷ 9 ∷ []
+  pub summarize_refused : said (summarizing 5) ≡ 8 ∷ 0 ∷ []
+  pub entries_as_found : count_after (summarizing 5) 7 ≡ 7
   pub searches : said (searching 3) ≡ 0 ∷ 0 ∷ []
   pub run : run_after (searching 3) (7 ∷ 7 ∷ 8 ∷ 8 ∷ 9 ∷ []) ≡ 0 ∷ 3 ∷ 9 ∷ 12 ∷ 15 ∷ []
   pub search_refused : said (searching 2) ≡ 1 ∷ 0 ∷ []
@@ -119,6 +129,11 @@ examples =
       verdicts = refl;
       judge_refused = refl;
       counts_as_found = refl;
+      summarizes = refl;
+      entries = refl;
+      summary = refl;
+      summarize_refused = refl;
+      entries_as_found = refl;
       searches = refl;
       run = refl;
       search_refused = refl;

@@ -42,6 +42,6 @@ verdict_after = result_after (λ (judgement : Judgement). mark judgement.verdict
 unfoldable pub run_after : Result Run Refusal → List ℕ → List ℕ
 run_after = result_after (λ (run : Run). end_number run.end ∷ run.found ∷ run.rejected ∷ run.replays ∷ run.visits ∷ [])
 
--- how many words were kept, or bytes written
+-- how many words were kept, or bytes or entries written
 unfoldable pub count_after : Result ℕ Refusal → ℕ → ℕ
 count_after = result_after (λ (count : ℕ). count)

@@ -8,6 +8,7 @@ ghost use Rattle.std.specs.Prelude.{◌≡◌, length};
 ghost use Rattle.limits.specs.Refusals.{answer_number, answer_value};
 ghost use Rattle.places.specs.Places.{place};
 ghost use Rattle.event_log_spec.specs.Checking.{checked};
+ghost use Rattle.variants_spec.specs.Summary.{summarized, summary_after};
 ghost use Rattle.replay_spec.specs.Answers.{replayed, judged};
 ghost use Rattle.discovery_spec.specs.Discovery.{discovered, capacity_of, found_after, rejected_after};
 ghost use Rattle.reduction_spec.specs.Reduction.{reduced, reduced_after};
@@ -25,12 +26,13 @@ use places::Place;
 use reduction::reduce;
 use replay::{judge_place, replay_first_trace};
 use reporter::report_places;
+use variants::summarize;
 use writer::write_places;
 
 // The version of the calls and formats, as `library/placelist.h` has it.
 const MAJOR: u32 = 2;
 
-const MINOR: u32 = 0;
+const MINOR: u32 = 1;
 
 const PATCH: u32 = 0;
 
@@ -52,7 +54,7 @@ fn answer<T: Drop>(answer: Result<T, Refusal>, value: &mut u64) -> u8
     }
 }
 
-// The answer of a call that counts words or bytes, with how many they are.
+// The answer of a call that counts words, bytes or entries, with how many they are.
 #[tactic(auto, unfolding(crate::specs::Results::count_after))]
 fn answer_count(counted: Result<usize, Refusal>, value: &mut u64, count: &mut u64) -> u8
     ensures number { result ≡ answer_number counted }
@@ -149,6 +151,26 @@ pub extern "C" fn placelist_judge(
         *verdict = judgement.verdict.mark();
     }
     answer(judged, value)
+}
+
+// Summarizes the variants of a log: how many entries there are, with the entries.
+#[unsafe(no_mangle)]
+pub extern "C" fn placelist_summarize(
+    activities: u8,
+    text: &[u8],
+    entries: &mut [u64],
+    value: &mut u64,
+    count: &mut u64,
+) -> u8
+    ensures number { result
+        ≡ answer_number (summarized activities text.now (length entries.old)) }
+    ensures value { value.new
+        ≡ answer_value (summarized activities text.now (length entries.old)) }
+    ensures count { count.new
+        ≡ count_after (summarized activities text.now (length entries.old)) count.old }
+    ensures entries { entries.new ≡ summary_after activities text.now entries.old }
+{
+    answer_count(summarize(activities, text, entries), value, count)
 }
 
 // Searches the candidates for the places that a log fits: how the run ended and what it counted,

@@ -49,7 +49,7 @@ impl Word for u32 {
     const DIGITS: usize = 8;
 }
 
-// A word of a cache.
+// A word of a cache or of a summary.
 impl Word for u64 {
     const DIGITS: usize = 9;
 }

@@ -2,7 +2,7 @@
 ghost use Rattle.std.specs.Prelude.{◌≡◌};
 ghost use Rattle.cases.specs.Calls.{name, call_named, leading_words};
 
-use crate::{listings, logs, rewrites};
+use crate::{listings, logs, rewrites, summaries};
 use case_notation::fields::{lines, rest, word};
 use case_notation::texts::unfold;
 use case_output::not_a_case;
@@ -18,6 +18,7 @@ pub enum Call {
     Check,
     Replay,
     Judge,
+    Summarize,
     Search,
     List,
     Twice,
@@ -27,10 +28,11 @@ pub enum Call {
 }
 
 impl Call {
-    const ALL: [Call; 9] = [
+    const ALL: [Call; 10] = [
         Call::Check,
         Call::Replay,
         Call::Judge,
+        Call::Summarize,
         Call::Search,
         Call::List,
         Call::Twice,
@@ -46,6 +48,7 @@ impl Call {
             Call::Check => b"check",
             Call::Replay => b"replay",
             Call::Judge => b"judge",
+            Call::Summarize => b"summarize",
             Call::Search => b"search",
             Call::List => b"list",
             Call::Twice => b"twice",
@@ -68,7 +71,7 @@ impl Call {
     {
         match self {
             Call::Check | Call::Reduce | Call::Write | Call::Report => 2,
-            Call::Replay => 3,
+            Call::Replay | Call::Summarize => 3,
             Call::Judge => 4,
             Call::Search => 8,
             Call::List => 9,
@@ -82,6 +85,7 @@ impl Call {
             Call::Check => logs::check(out, line, text),
             Call::Replay => logs::replay(out, line, text),
             Call::Judge => logs::judge(out, line, text),
+            Call::Summarize => summaries::summarize(out, line, text),
             Call::Search => listings::search(out, line, text),
             Call::List => listings::list(out, line, text),
             Call::Twice => listings::twice(out, line, text),

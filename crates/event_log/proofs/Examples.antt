@@ -7,10 +7,10 @@ use mathlib.Core.Path.{◌≡◌, refl}
 use mathlib.Core.List.{List, [], ◌∷◌, map}
 use Rattle.foundation.specs.Text.{bytes}
 use Rattle.event_log_spec.specs.Frames.{Frame}
-use Rattle.event_log_spec.specs.Lines.{frames_of}
+use Rattle.event_log_spec.specs.Lines.{frames_of, frame_at, frames_between}
 use Rattle.event_log.specs.Stepping.{trace_end}
 use Rattle.event_log.specs.declared.index.IndexedFrame.{IndexedFrame}
-use Rattle.event_log.specs.FrameIndex.{frame_index, digits_start, frame_at, frames_between, activity_digits}
+use Rattle.event_log.specs.FrameIndex.{frame_index, digits_start, activity_digits}
 use Rattle.event_log.proofs.Opened.{opened}
 
 abbrev two : List ℕ

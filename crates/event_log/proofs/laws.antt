@@ -4,3 +4,4 @@ pub mod FrameAt
 pub mod FrameIndex
 pub mod IndexedFrames
 pub mod FrameRanges
+pub mod FrameDigits

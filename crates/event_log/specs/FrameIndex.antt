@@ -1,7 +1,7 @@
 -- The index of a log's frames: an entry for each, from which and from the one before it all is read
 -- that is asked of a frame again and again. Document 01, "Settings and the log".
 -- Assumes nothing.
-use Rattle.std.specs.Prelude.{ℕ, ◌+◌, ◌-◌, ◌*◌, ◌≡◌, length, take, drop, get_or}
+use Rattle.std.specs.Prelude.{ℕ, ◌+◌, ◌*◌, ◌≡◌, length, take}
 use mathlib.Core.List.{List, [], ◌∷◌, flat_map}
 use Rattle.limits.specs.Settings.{most_activities}
 use Rattle.hex_digits.specs.Digits.{write_hex}
@@ -25,17 +25,6 @@ pub record Indexed (text : List ℕ) (index : List IndexedFrame) : Type 0 where
 -- where the activity digits of a frame start: after the frames before it, and its own count
 unfoldable pub digits_start : List ℕ → ℕ → ℕ
 digits_start text line = length (flat_map write_frame (take line (frames_of text))) + count_digits
-
--- a frame by its line; beyond the last, one of no cases and no activities
-abbrev pub frame_in : List Frame → ℕ → Frame
-frame_in frames line = get_or frames line (record { cases = 0; trace = [] })
-
-abbrev pub frame_at : List ℕ → ℕ → Frame
-frame_at text = frame_in (frames_of text)
-
--- the frames of a log from one line on up to another
-abbrev pub frames_between : ℕ → ℕ → List ℕ → List Frame
-frames_between from to text = take (to - from) (drop from (frames_of text))
 
 -- the activity digits of a frame, two for each activity
 abbrev pub activity_digits : Frame → List ℕ

@@ -1,11 +1,11 @@
-// The index of a log's frames, made once for all replays: document 01, "Settings and the log". What
-// an entry of it holds is known in this file alone.
+// The index of a log's frames, made once for all that a call does with them: document 01, "Settings
+// and the log". What an entry of it holds is known in this file alone.
 ghost use Rattle.std.specs.Prelude.{◌≡◌, ◌+◌, ◌≤◌, ◌<◌, length};
 ghost use Rattle.foundation.specs.Buffers.{overwrite};
 ghost use Rattle.limits.specs.Settings.{most_activities};
 ghost use Rattle.event_log_spec.specs.Frames.{WrittenLog, most_frames};
-ghost use Rattle.event_log_spec.specs.Lines.{frames_of};
-ghost use Rattle.event_log.specs.FrameIndex.{frame_index, Indexed, digits_start, frame_at, activity_digits};
+ghost use Rattle.event_log_spec.specs.Lines.{frames_of, frame_at};
+ghost use Rattle.event_log.specs.FrameIndex.{frame_index, Indexed, digits_start, activity_digits};
 ghost use Rattle.event_log_spec.proofs.laws.OneWay.{log_prop};
 ghost use Rattle.std.proofs.Props.{props};
 
@@ -21,8 +21,8 @@ pub struct IndexedFrame {
     cases: u32,
 }
 
-// A log that was accepted, and an entry for each of its frames, so that nothing has to be looked for
-// or decoded when its traces are replayed again and again.
+// A log that was accepted, and an entry for each of its frames, so that no frame has to be looked for
+// and no count decoded when they are gone through again and again.
 #[derive(Clone, Copy)]
 pub struct IndexedLog<'a> {
     pub text: &'a [u8],

@@ -10,3 +10,4 @@ pub mod OneWay
 pub mod FirstFault
 pub mod WiderBound
 pub mod NotWritten
+pub mod CodeDigits

@@ -1,7 +1,7 @@
 -- Frames, and how a log is built from them: the written form. Document 01, "Settings and the log";
 -- the source's Definitions 1 and 2.
 -- Assumes nothing.
-use Rattle.std.specs.Prelude.{ℕ, ◌+◌, ◌*◌, ◌^◌, ◌≤◌, ◌<◌, ◌≡◌, length}
+use Rattle.std.specs.Prelude.{ℕ, ◌+◌, ◌*◌, ◌^◌, ◌≤◌, ◌<◌, ◌≡◌, length, get_or}
 use mathlib.Core.List.{List, [], ◌∷◌, ◌++◌, map, flat_map}
 use Rattle.foundation.specs.Lists.{Each, sum}
 use Rattle.hex_digits.specs.Digits.{write_hex, line_feed}
@@ -10,6 +10,10 @@ use Rattle.hex_digits.specs.Digits.{write_hex, line_feed}
 pub record Frame : Type 0 where
   pub cases : ℕ
   pub trace : List ℕ
+
+-- a frame by its line; beyond the last, one of no cases and no activities
+abbrev pub frame_in : List Frame → ℕ → Frame
+frame_in frames line = get_or frames line (record { cases = 0; trace = [] })
 
 -- the digits of a case count. What reads, checks and writes frames takes their number (`.._with`),
 -- so that logs of eight can be held to logs of four

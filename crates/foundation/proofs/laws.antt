@@ -10,3 +10,4 @@ pub mod Sums
 pub mod Integers
 pub mod Differences
 pub mod Buffers
+pub mod Blocks

@@ -1,6 +1,6 @@
 // Hexadecimal digits: 0 to 9 and A to F, never lower case. Reading and writing numbers in them.
-ghost use Rattle.std.specs.Prelude.{◌≡◌, ◌<◌, ◌≤◌, length};
-ghost use Rattle.hex_digits.specs.Digits.{digit_of, most_digits, number_in, digit_byte, write_hex};
+ghost use Rattle.std.specs.Prelude.{◌≡◌, ◌<◌, ◌≤◌, length, true};
+ghost use Rattle.hex_digits.specs.Digits.{digit_of, is_digit, digit_value, most_digits, number_in, digit_byte, write_hex};
 
 // The value of a byte as a digit, if it is one.
 #[tactic(auto, unfolding(crate::specs::Digits::digit_of))]
@@ -12,6 +12,16 @@ pub fn classify(byte: u8) -> Option<u8>
         b'A'..=b'F' => Some(byte - b'A' + 10),
         _ => None,
     }
+}
+
+// The value of a byte that is a digit, without a branch: 0 to 9 are the bytes 48 to 57, A to F 65 to
+// 70.
+#[tactic(auto, unfolding(crate::specs::Digits::is_digit, crate::specs::Digits::digit_of))]
+pub fn digit_value(byte: u8) -> u8
+    requires { is_digit byte ≡ true }
+    ensures { result ≡ digit_value byte }
+{
+    byte % 16 + byte / 64 * 9
 }
 
 // The number that some digits write, the highest first: no more digits than 64 bits take. There is

@@ -39,8 +39,8 @@ first_of (Some r ∷ later) = Some r
 first_of (None ∷ later) = first_of later
 
 -- what each check of a call gives; `None` where it passes, and where the call has no such argument.
--- Those marked (02) are positions for the checks of document 02, which the calls of document 01
--- pass over
+-- Those marked (02) are positions for requests of document 02 that have not landed, and no call
+-- fills them in
 pub record Checks : Type 0 where
   pub settings : Option Refusal  -- 1
   pub arguments : Option Refusal  -- 9, 10 and 12, of a state, a window or groups (02)
@@ -49,7 +49,7 @@ pub record Checks : Type 0 where
   pub room : Option Refusal  -- 8
   pub emptiness : Option Refusal  -- 6
   pub lines : Option Refusal  -- the faults of the text's lines
-  pub result_room : Option Refusal  -- 8, of a buffer whose entries the text decides (02)
+  pub result_room : Option Refusal  -- 8, of a buffer whose entries the text decides
 
 -- the order of checks
 unfoldable pub first_refusal : Checks → Option Refusal

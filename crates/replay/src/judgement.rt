@@ -1,8 +1,7 @@
 // Judging a place over the frames of a log that was checked: document 01, "Tokens in one trace",
 // second paragraph.
 ghost use Rattle.std.specs.Prelude.{◌≡◌, ◌+◌, ◌^◌, ◌≤◌, ◌<◌, length, get_or};
-ghost use Rattle.event_log_spec.specs.Lines.{frames_of};
-ghost use Rattle.event_log.specs.FrameIndex.{frames_between};
+ghost use Rattle.event_log_spec.specs.Lines.{frames_of, frames_between};
 ghost use Rattle.replay_spec.specs.Judgement.{case_counts, cases_of, exceeds, verdict_where, verdict_of, mark};
 ghost use Rattle.replay.specs.Replaying.{verdicts, kind_of, with_cases};
 

@@ -6,7 +6,8 @@ use lib.IntN.{ℤ, pos, negsuc}
 use Rattle.foundation.specs.Text.{bytes}
 use Rattle.places.specs.Places.{place}
 use Rattle.token_replay.specs.declared.Tokens.{Tokens}
-use Rattle.token_replay.specs.Tokens.{after_event, by_digit, digit_sets, after_digit, codes_in}
+use Rattle.event_log_spec.specs.Lines.{codes_in}
+use Rattle.token_replay.specs.Tokens.{after_event, by_digit, digit_sets, after_digit}
 use Rattle.token_replay.proofs.Opened.{opened}
 
 abbrev pub tokens : ℤ → ℤ → Tokens

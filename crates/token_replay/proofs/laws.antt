@@ -1,4 +1,3 @@
 pub mod ByDigit
 pub mod EventBits
 pub mod EventByEvent
-pub mod CodeDigits

@@ -1,11 +1,9 @@
--- The tokens of one trace, event by event: the sets of a place by digit, the tokens after one more
--- event and after a trace, and the codes that a trace's digits stand for. Document 01, "Tokens in
--- one trace", first paragraph.
+-- The tokens of one trace, event by event: the sets of a place by digit, and the tokens after one
+-- more event and after a trace. Document 01, "Tokens in one trace", first paragraph.
 -- Assumes nothing.
-use Rattle.std.specs.Prelude.{ℕ, ◌+◌, ◌*◌, ◌/◌, ◌%◌, List, [], ◌∷◌, pos, ◌+ℤ◌, ◌-ℤ◌}
+use Rattle.std.specs.Prelude.{ℕ, ◌+◌, ◌*◌, ◌/◌, ◌%◌, List, pos, ◌+ℤ◌, ◌-ℤ◌}
 use Rattle.places.specs.declared.Place.{Place}
 use Rattle.places.specs.Sets.{has}
-use Rattle.hex_digits.specs.Digits.{digit_value}
 use Rattle.token_replay.specs.declared.DigitSets.{DigitSets}
 use Rattle.token_replay.specs.declared.Tokens.{Tokens}
 use Rattle.replay_spec.specs.Balance.{smaller, least_balance, last_balance}
@@ -36,10 +34,3 @@ after_digit s t digit = tokens_after t (has s.outputs (digit % 32)) (has s.input
 -- after the last event of a trace: the end and the low of document 01
 abbrev pub after_trace : Place → List ℕ → Tokens
 after_trace p trace = record { balance = last_balance p trace; least = least_balance p trace }
-
--- the activity codes of a trace's digits, two digits each: codes are below 16, so the second digit
--- of the two is the code
-unfoldable pub codes_in : List ℕ → List ℕ
-codes_in [] = []
-codes_in (d ∷ []) = []
-codes_in (d ∷ (e ∷ bytes)) = digit_value e ∷ codes_in bytes

@@ -7,7 +7,8 @@ ghost use Rattle.std.specs.List.{list_all};
 ghost use Rattle.hex_digits.specs.Digits.{is_digit};
 ghost use Rattle.places.specs.declared.Place.{Place};
 ghost use Rattle.event_log_spec.specs.Frames.{most_events};
-ghost use Rattle.token_replay.specs.Tokens.{by_digit, digit_sets, after_digit, after_trace, codes_in};
+ghost use Rattle.event_log_spec.specs.Lines.{codes_in};
+ghost use Rattle.token_replay.specs.Tokens.{by_digit, digit_sets, after_digit, after_trace};
 
 use places::Place;
 

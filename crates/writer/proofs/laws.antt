@@ -1,4 +1,2 @@
-pub mod BufferParts
 pub mod PlaceLines
-pub mod LineByLine
 pub mod Refusals

@@ -14,8 +14,9 @@ import threading
 import unittest
 from concurrent.futures import ThreadPoolExecutor
 from contextlib import suppress
+from itertools import product
 from pathlib import Path
-from typing import Any, Callable, List, NamedTuple, Optional
+from typing import Any, Callable, Dict, List, NamedTuple, Optional
 from unittest import mock
 
 PYTHON = Path(__file__).resolve().parents[1]
@@ -28,7 +29,8 @@ sys.path.insert(0, str(PYTHON))
 import placelist  # noqa: E402
 from placelist import (  # noqa: E402
     Balances, End, Judgement, LogSize, Place, Refusal, RefusalKind, Rejected, Run, Settings,
-    Verdict, Version, check, judge, reduce, replay, report, search, version, write,
+    Variant, Verdict, Version, check, judge, reduce, replay, report, search, summarize, version,
+    write,
 )
 
 # M1, M4 and M11 of the written scope.
@@ -153,6 +155,57 @@ class Worked(unittest.TestCase):
         self.assertEqual(doctest.testmod(placelist).failed, 0)
 
 
+class Variants(unittest.TestCase):
+    """The summary of a log: what is of one variant, and the order of variants."""
+
+    def test_worked_cases(self) -> None:
+        for log, expected in [
+            (b"000000010001\n", [(0, 1, 1)]),
+            # one variant in three orders
+            (b"000000010002030401\n000000020004030201\n000000030003020401\n", [(0, 3, 6)]),
+            # the same activities, but not equally often
+            (b"000000030002020301\n000000020002030301\n000000010002030201\n",
+             [(0, 2, 4), (1, 1, 2)]),
+            # falling cases, those of all frames of a variant
+            (b"00000005000201\n00000001000301\n0000000300020301\n0000000300030201\n",
+             [(2, 2, 6), (0, 1, 5), (1, 1, 1)]),
+            # equal cases
+            (b"000000010001\n00000001000301\n00000002000201\n00000001000301\n",
+             [(1, 2, 2), (2, 1, 2), (0, 1, 1)]),
+        ]:
+            with self.subTest(log=log):
+                answer = summarize(16, log)
+                self.assertEqual(answer, expected)
+                self.assertEqual({type(variant) for variant in answer}, {Variant})
+
+    def test_largest_logs(self) -> None:
+        """Of one variant, and of as many as a log can have."""
+        most = placelist.MOST_FRAMES
+        same = summarize(3, b"FFFFFFFF000201\n" * most)
+        self.assertEqual(same, [Variant(0, most, most * (2**32 - 1))])
+        frames = [b"0000000100" + b"02" * few + b"03" * some + b"04" * many + b"01\n"
+                  for few, some, many in product(range(16), repeat=3)]
+        different = summarize(5, b"".join(frames))
+        self.assertEqual(different, [Variant(line, 1, 1) for line in range(most)])
+
+    def plainly(self, log: bytes) -> List[Variant]:
+        """The summary of a log, by the sorted activities of each frame."""
+        variants: Dict[Any, Variant] = {}
+        for line, frame in enumerate(log.splitlines()):
+            activities = tuple(sorted(frame[at:at + 2] for at in range(8, len(frame), 2)))
+            first, frames, cases = variants.get(activities, (line, 0, 0))
+            variants[activities] = Variant(first, frames + 1, cases + int(frame[:8], 16))
+        return sorted(variants.values(), key=lambda it: (-it.cases, it.first_line))
+
+    def test_offices(self) -> None:
+        for office in OFFICES:
+            log = (EXAMPLES / f"{office}.log").read_bytes()[11:]
+            answer = summarize(16, log)
+            self.assertEqual(answer, self.plainly(log), office)
+            _, frames, cases = map(sum, zip(*answer))
+            self.assertEqual(check(16, log), LogSize(frames, cases))
+
+
 class CaseCounts(unittest.TestCase):
     """Case counts of eight digits, and numbers of cases above 32 bits."""
 
@@ -161,6 +214,8 @@ class CaseCounts(unittest.TestCase):
         so many of each, and that this is the least threshold at which the place is not overfed.
         """
         self.assertEqual(check(3, log).cases, fitting + overfed)
+        cases = [variant.cases for variant in summarize(3, log)]
+        self.assertEqual(cases, sorted([fitting, overfed], reverse=True))
         for at, verdict in [(threshold - 1, Verdict.OVERFED), (threshold, Verdict.FITTING)]:
             answer = judge(3, at, log, Place(0x0001, 0x0004))
             self.assertEqual(answer, Judgement(fitting, 0, overfed, 0, verdict))
@@ -200,6 +255,7 @@ class Refusals(unittest.TestCase):
         self.refused(number, value, check, activities, log)
         self.refused(number, value, replay, activities, log, PLACE)
         self.refused(number, value, judge, activities, 0, log, PLACE)
+        self.refused(number, value, summarize, activities, log)
         self.refused(number, value, search, SHORT_SETTINGS._replace(activities=activities), log)
 
     def test_settings(self) -> None:
@@ -308,6 +364,7 @@ class Arguments(unittest.TestCase):
         spread = memoryview(b"".join(bytes([byte, 0xFF]) for byte in SHORT))[::2]
         for log in (SHORT, bytearray(SHORT), memoryview(SHORT), spread):
             self.assertEqual(check(3, log), LogSize(1, 1))
+            self.assertEqual(summarize(3, log), [Variant(0, 1, 1)])
             self.assertEqual(search(SHORT_SETTINGS, log).found, SHORT_FOUND)
         input = bytearray(b"0303010000\n000000010001\n")
         self.assertEqual(report(input), report(bytes(input)))
@@ -323,8 +380,8 @@ class Arguments(unittest.TestCase):
         text: Any = SHORT.decode()
         for call in (
             lambda: check(99, text), lambda: replay(3, text, PLACE),
-            lambda: judge(3, 0, text, PLACE), lambda: search(SHORT_SETTINGS, text),
-            lambda: report(text),
+            lambda: judge(3, 0, text, PLACE), lambda: summarize(3, text),
+            lambda: search(SHORT_SETTINGS, text), lambda: report(text),
         ):
             with self.assertRaisesRegex(TypeError, "a log is bytes, not str: open the file in bin"):
                 call()
@@ -358,6 +415,7 @@ class Arguments(unittest.TestCase):
             self.assertRaises(TypeError, check, value, SHORT)
             self.assertRaises(TypeError, judge, 3, value, SHORT, PLACE)
             self.assertRaises(TypeError, replay, 3, SHORT, Place(value, 2))
+            self.assertRaises(TypeError, summarize, value, SHORT)
             self.assertRaises(TypeError, reduce, [Place(1, value)])
             self.assertRaises(TypeError, write, [value])
             self.assertRaises(TypeError, write, [(1, 2, value)])
@@ -436,6 +494,12 @@ class Header(unittest.TestCase):
             body = re.search(rf"enum placelist_{name} \{{(.*?)\}}", self.text, re.DOTALL)[1]
             numbers = {int(number) for number in re.findall(r"= (\d+)", body)}
             self.assertEqual(numbers - {0}, {member.value for member in kind} - {0})
+
+    def test_entries(self) -> None:
+        body = re.search(r"enum placelist_variant_index \{(.*?)\}", self.text, re.DOTALL)[1]
+        words = re.findall(r"PLACELIST_VARIANT_(\w+) = (\d+)", body)
+        names = [*Variant._fields, "length"]
+        self.assertEqual(words, [(name.upper(), str(at)) for at, name in enumerate(names)])
 
     def test_calls(self) -> None:
         declared = re.findall(r"^uint8_t\s+placelist_(\w+)\(([^)]*)\)[^;{]*;", self.text, re.M)

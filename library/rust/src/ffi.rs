@@ -52,6 +52,16 @@ extern "C" {
         verdict: *mut u8,
     ) -> u8;
 
+    pub fn placelist_summarize(
+        activities: u8,
+        text: *const u8,
+        text_len: usize,
+        entries: *mut u64,
+        entries_len: usize,
+        value: *mut u64,
+        count: *mut u64,
+    ) -> u8;
+
     pub fn placelist_search(
         activities: u8,
         most_inputs: u8,

@@ -2,9 +2,10 @@
 //!
 //! A *place* has a set of input activities, which each put a token in, and a set of output
 //! activities, which each take one out. This crate checks a log, replays and judges a place on it,
-//! searches all places that the log fits, reduces a list of places and writes it. Every call is
-//! proved to answer, for all arguments, what the written scope of the library (document 01) says;
-//! this crate hands arguments and answers over and does nothing else.
+//! summarizes its variants, searches all places that the log fits, reduces a list of places and
+//! writes it. Every call is proved to answer, for all arguments, what the written scope of the
+//! library (document 01) says, whose own word for a thing stands in brackets; this crate hands
+//! arguments and answers over and does nothing else.
 //!
 //! An activity is a code from 0 to 15: 0 is the start of a case, 1 its end. A set is a `u16`, with
 //! the bit `1 << code` for each activity. A log is text, a frame for each line: eight hexadecimal
@@ -46,7 +47,7 @@ mod words;
 pub use answers::{Balances, End, Judgement, LogSize, Run, Verdict, Version};
 pub use limits::*;
 pub use refusal::{Refusal, RefusalKind};
-pub use words::{Place, Rejected};
+pub use words::{Place, Rejected, Variant};
 
 use refusal::refused;
 
@@ -164,6 +165,53 @@ pub fn judge(
         both,
         verdict: Verdict::of(verdict),
     })
+}
+
+/// Summarizes a log by its variants: the frames in which each activity occurs equally often, in
+/// whatever order. Answers how many variants there are.
+///
+/// `entries` receives an entry for each variant, [`VARIANT_LENGTH`] words from the front
+/// ([`Variant::from_entries`]). Variants with more cases come first; of two with as many cases, the
+/// one with the earlier first line. The frames of all entries add up to those of the log, and so do
+/// the cases. `entries` may have any length; beyond the entries written it is unchanged.
+/// `VARIANT_LENGTH * MOST_FRAMES` words suffice for every log.
+///
+/// # Errors
+/// In this order: 1, 6, then of the first faulty line 5, 2, 3 or 4, then 8 where `entries` has room
+/// for fewer entries than the log has variants.
+///
+/// ```
+/// use placelist::{summarize, Variant, VARIANT_LENGTH};
+///
+/// let log = b"0000000100020301\n000000030001\n0000000400030201\n";
+/// let mut entries = [0; 8 * VARIANT_LENGTH];
+/// let count = summarize(4, log, &mut entries)?;
+/// let variants: Vec<_> = Variant::from_entries(&entries[..VARIANT_LENGTH * count]).collect();
+/// let expected = [
+///     Variant { first_line: 0, frames: 2, cases: 5 }, // 2, 3 and 3, 2
+///     Variant { first_line: 1, frames: 1, cases: 3 }, // neither
+/// ];
+/// assert_eq!(variants, expected);
+/// # Ok::<(), placelist::Refusal>(())
+/// ```
+pub fn summarize(activities: u8, text: &[u8], entries: &mut [u64]) -> Result<usize, Refusal> {
+    let mut value = 0;
+    let mut count = 0;
+    // SAFETY: text and entries are slices, the entries borrowed mutably, value and count are locals
+    // of their own (see `ffi`).
+    let number = unsafe {
+        ffi::placelist_summarize(
+            activities,
+            text.as_ptr(),
+            text.len(),
+            entries.as_mut_ptr(),
+            entries.len(),
+            &mut value,
+            &mut count,
+        )
+    };
+    refused(number, value)?;
+    Ok(count as usize)
 }
 
 /// Searches all places within the settings, with at most `budget` replays, and lists those that the

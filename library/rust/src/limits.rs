@@ -16,6 +16,10 @@ pub const MOST_FRAME_BYTES: usize = 8 + 2 * MOST_FRAME_ACTIVITIES + 1;
 /// The bytes of the longest log.
 pub const MOST_LOG_BYTES: usize = MOST_FRAMES * MOST_FRAME_BYTES;
 
+/// The words of an entry of [`summarize`](crate::summarize), one for each field of a
+/// [`Variant`](crate::Variant).
+pub const VARIANT_LENGTH: usize = 3;
+
 /// The bytes of a place in a written list.
 pub const LINE_BYTES: usize = 9;
 
@@ -31,4 +35,4 @@ pub const PROGRAM_FOUND: usize = 4096;
 pub const PROGRAM_BUDGET: u32 = 1_000_000;
 
 /// The bytes of the stack that suffice for every call: measured, not proved.
-pub const MOST_STACK: usize = 81_920;
+pub const MOST_STACK: usize = 114_688;

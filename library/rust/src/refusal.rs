@@ -6,8 +6,8 @@ use std::fmt;
 /// What was wrong, with its number in document 01.
 ///
 /// Where several hold, the first of this order is given, by number: 1; 7; 8; 6; then what the first
-/// line with a fault has, 5 for its index before 2, then 5 for its length, 3, 4. A call skips the
-/// checks of what it is not given.
+/// line with a fault has, 5 for its index before 2, then 5 for its length, 3, 4. For
+/// [`summarize`](crate::summarize) 8 comes last. A call skips the checks of what it is not given.
 #[derive(Debug, Clone, Copy, PartialEq, Eq)]
 #[repr(u8)]
 #[non_exhaustive]

@@ -1,6 +1,6 @@
-//! Places, and the words of the lists and of the cache.
+//! Places and variants, and the words of the lists, of the cache and of a summary.
 
-use crate::Verdict;
+use crate::{Verdict, VARIANT_LENGTH};
 
 /// A place: two sets of activities, with the bit `1 << code` for each activity.
 #[derive(Debug, Clone, Copy, PartialEq, Eq)]
@@ -70,5 +70,39 @@ impl Rejected {
         };
         let place = Place::from_word((word & 0xFFFF_FFFF) as u32);
         Some(Rejected { place, mark })
+    }
+}
+
+/// A variant \[kind\] of a log: the frames in which each activity occurs equally often. The order
+/// of the activities is ignored.
+#[derive(Debug, Clone, Copy, PartialEq, Eq)]
+pub struct Variant {
+    /// The first line that is of this variant.
+    pub first_line: u64,
+    /// The number of lines that are of it.
+    pub frames: u64,
+    /// The sum of their case counts.
+    pub cases: u64,
+}
+
+impl Variant {
+    /// The variants of the entries that a summary wrote, [`VARIANT_LENGTH`] words each, in their
+    /// order. Words at the end that are no whole entry are passed over.
+    ///
+    /// ```
+    /// use placelist::Variant;
+    ///
+    /// let mut variants = Variant::from_entries(&[4, 2, 100, 0, 3, 99, 7, 7]);
+    /// assert_eq!(variants.next(), Some(Variant { first_line: 4, frames: 2, cases: 100 }));
+    /// assert_eq!(variants.next(), Some(Variant { first_line: 0, frames: 3, cases: 99 }));
+    /// assert_eq!(variants.next(), None);
+    /// ```
+    pub fn from_entries(entries: &[u64]) -> impl Iterator<Item = Variant> + '_ {
+        let variant = |entry: &[u64]| Variant {
+            first_line: entry[0],
+            frames: entry[1],
+            cases: entry[2],
+        };
+        entries.chunks_exact(VARIANT_LENGTH).map(variant)
     }
 }

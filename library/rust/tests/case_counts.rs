@@ -13,6 +13,10 @@ const PLACE: Place = Place {
 fn counted(log: &[u8], fitting: u64, overfed: u64, threshold: u16) {
     let size = check(3, log).unwrap();
     assert_eq!(size.cases, fitting + overfed);
+    let mut entries = [0; 2 * VARIANT_LENGTH];
+    summarize(3, log, &mut entries).unwrap();
+    let cases = Variant::from_entries(&entries).map(|variant| variant.cases);
+    assert!(cases.eq([fitting.max(overfed), fitting.min(overfed)]));
     let below = Judgement {
         fitting,
         underfed: 0,

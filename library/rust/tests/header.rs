@@ -96,6 +96,24 @@ fn verdicts_and_ends() {
     assert_eq!(variants(ends), enumerators("end"));
 }
 
+/// An entry of a summary has its words at the indices of the header.
+#[test]
+fn entries() {
+    let Variant {
+        first_line,
+        frames,
+        cases,
+    } = Variant::from_entries(&[0, 1, 2]).next().unwrap();
+    let expected = [
+        ("VARIANT_FIRST_LINE", first_line),
+        ("VARIANT_FRAMES", frames),
+        ("VARIANT_CASES", cases),
+        ("VARIANT_LENGTH", VARIANT_LENGTH as u64),
+    ];
+    let expected = expected.map(|(name, number)| (name.to_string(), number));
+    assert_eq!(enumerators("variant_index"), Named::from(expected));
+}
+
 #[test]
 fn one_version() {
     let Version {

@@ -29,12 +29,23 @@ fn search_refused(settings: Settings, text: &[u8], expected: Refusal) {
     assert_eq!((rejected, found), ([7; 5], [9; 5]));
 }
 
+/// That a summary of this text gives this refusal, also where it has no room, and leaves the
+/// buffer.
+fn summary_refused(activities: u8, text: &[u8], expected: Refusal) {
+    for room in 0..7 {
+        let mut entries = [9; 7];
+        let answer = summarize(activities, text, &mut entries[..room]);
+        assert_eq!((answer, entries), (Err(expected), [9; 7]));
+    }
+}
+
 /// That every call that reads a log refuses this one so.
 fn log_refused(activities: u8, text: &[u8], kind: RefusalKind, value: u64) {
     let expected = refusal(kind, value);
     assert_eq!(check(activities, text), Err(expected));
     assert_eq!(replay(activities, text, PLACE), Err(expected));
     assert_eq!(judge(activities, 0, text, PLACE), Err(expected));
+    summary_refused(activities, text, expected);
     search_refused(
         Settings {
             activities,
@@ -197,6 +208,19 @@ fn room() {
         Err(refusal(BufferTooSmall, 0))
     );
     assert_eq!(output, [b'-'; MOST_OUTPUT]);
+}
+
+/// Where a log has no fault, and more variants than there are whole entries.
+#[test]
+fn room_for_entries() {
+    let two = [LOG, b"000000010001\n"].concat();
+    for room in 0..6 {
+        let mut entries = [9; 6];
+        let answer = summarize(3, &two, &mut entries[..room]);
+        assert_eq!(answer, Err(refusal(BufferTooSmall, 0)));
+        assert_eq!(entries, [9; 6]);
+    }
+    assert_eq!(summarize(3, &two, &mut [9; 6]), Ok(2));
 }
 
 #[test]

@@ -10,8 +10,7 @@ use mathlib.Core.List.{List, [], ◌∷◌, ◌++◌}
 use lib.ListN.{length, drop, length-drop}
 use lib.Seq.{take-suc, take-length, get_or-drop}
 use Rattle.event_log_spec.specs.Frames.{Frame}
-use Rattle.event_log_spec.specs.Lines.{frames_of}
-use Rattle.event_log.specs.FrameIndex.{frame_at, frames_between}
+use Rattle.event_log_spec.specs.Lines.{frames_of, frame_at, frames_between}
 
 module _ (text : List ℕ) where
   pub frames_none : (line : ℕ) → frames_between line line text ≡ []

@@ -13,12 +13,12 @@ use Rattle.foundation.proofs.laws.Lists.{each_head}
 use Rattle.foundation.proofs.laws.Each.{each_at}
 use Rattle.limits.specs.Settings.{most_activities}
 use Rattle.hex_digits.specs.Digits.{line_feed}
-use Rattle.event_log_spec.specs.Frames.{Frame, FrameUnder, WrittenLog, count_digits, write_frame}
-use Rattle.event_log_spec.specs.Lines.{frames_of}
+use Rattle.event_log_spec.specs.Frames.{Frame, FrameUnder, WrittenLog, count_digits, write_frame, frame_in}
+use Rattle.event_log_spec.specs.Lines.{frames_of, frame_at}
 use Rattle.event_log_spec.proofs.laws.PairLaws.{length_pairs}
 use Rattle.event_log.specs.Stepping.{trace_end}
 use Rattle.event_log.specs.declared.index.IndexedFrame.{IndexedFrame}
-use Rattle.event_log.specs.FrameIndex.{frame_index, Indexed, digits_start, frame_in, frame_at, activity_digits}
+use Rattle.event_log.specs.FrameIndex.{frame_index, Indexed, digits_start, activity_digits}
 use Rattle.event_log.proofs.laws.FrameAt.{from_digits, frame_end, frame_part, frame_inside}
 use Rattle.event_log.proofs.laws.FrameIndex.{frame_bytes, length_index}
 

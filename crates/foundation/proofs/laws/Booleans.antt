@@ -21,6 +21,10 @@ by_test false hx hy = hy refl
 pub same_truth : {a b : Bool} → (a ≡ true → b ≡ true) → (b ≡ true → a ≡ true) → a ≡ b
 same_truth {a = a} {b = b} there back = by_test a (λ e. e ∙ sym (there e)) (λ e. by_test b (λ f. back f ∙ sym f) (λ f. e ∙ sym f))
 
+-- and so are two that fail in the same cases
+pub same_false : {a b : Bool} → (a ≡ false → b ≡ false) → (b ≡ false → a ≡ false) → a ≡ b
+same_false {a = a} {b = b} there back = by_test b (λ t. by_test a (λ s. s ∙ sym t) (λ f. absurd (true≢false (sym t ∙ there f)))) (λ f. back f ∙ sym f)
+
 pub or_false_parts : (a b : Bool) → a || b ≡ false → (a ≡ false) × (b ≡ false)
 or_false_parts true b e = absurd (true≢false e)
 or_false_parts false b e = (refl, e)

@@ -1,13 +1,14 @@
 -- Items written from the front of a buffer: its front alone changes nothing, an item stored after
--- the front makes the front longer by that item, the items can be taken back, and writing more
--- items over fewer is writing the more.
+-- the front makes the front longer by that item, and items put into the part behind it by these;
+-- the items can be taken back, and writing more items over fewer is writing the more.
 -- Assumes nothing.
 use Prim.Native.Nat.{ℕ, suc, ◌+◌, ◌-◌, ◌≤◌, ◌<◌}
 use native.Mathlib.Omega.{arith}
-use mathlib.Core.Path.{◌≡◌, sym, ap, ◌∙◌}
-use mathlib.Core.List.{List, [], ◌∷◌, ◌++◌}
+use mathlib.Core.Path.{◌≡◌, refl, sym, ap, ◌∙◌}
+use mathlib.Core.List.{List, [], ◌∷◌, ◌++◌, append_assoc}
+use borrow.Rule.Slice.PartMut.{put_mid}
 use lib.ListN.{length, take, drop, set, length-append, take-append-drop}
-use lib.Seq.{length-take-le, set_split, append_snoc, take-append_seam, drop-append-add, drop-drop}
+use lib.Seq.{length-take-le, set_split, append_snoc, take-append_seam, drop-append-add, drop-drop, take_at, drop_at}
 use Rattle.foundation.specs.Buffers.{overwrite}
 
 module _ {A : Type 0} (buffer : List A) where
@@ -53,3 +54,16 @@ overwrite_more buffer items x l =
     overwrite_next (overwrite items buffer) (length items) x l
     ∙ ap (λ front. overwrite (front ++ (x ∷ [])) (overwrite items buffer)) (take_overwritten buffer items)
     ∙ overwrite_again buffer items (items ++ (x ∷ [])) (omega (arith, length-append items (x ∷ [])))
+
+-- the part that stands directly behind what was written
+pub overwrite_part : {A : Type 0} (buffer front more : List A) (at room : ℕ) → at ≡ length front → room ≡ length more
+    → put_mid at room (overwrite front buffer) more ≡ overwrite (front ++ more) buffer
+overwrite_part buffer front more at room e f =
+    rw (
+      e,
+      f,
+      take_at front (drop (length front) buffer) (length front) refl,
+      drop_at front (drop (length front) buffer) (length front) refl,
+      drop-drop (length more) (length front) buffer,
+      length-append front more,
+    ) (sym (append_assoc front more (drop (length front + length more) buffer)))

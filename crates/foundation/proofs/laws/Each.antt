@@ -62,6 +62,10 @@ pub each_map : {A B : Type 0} {P : B → Type 0} (f : A → B) {xs : List A} →
 each_map f each_nil = each_nil
 each_map f (each_cons here later) = each_cons here (each_map f later)
 
+pub each_unmap : {A B : Type 0} {P : B → Type 0} (f : A → B) (xs : List A) → Each P (map f xs) → Each (λ (x : A). P (f x)) xs
+each_unmap f [] each_nil = each_nil
+each_unmap f (x ∷ xs) (each_cons here later) = each_cons here (each_unmap f xs later)
+
 pub each_flat_map : {A B : Type 0} {P : B → Type 0} (f : A → List B) {xs : List A}
     → Each (λ (x : A). Each P (f x)) xs → Each P (flat_map f xs)
 unfolding flat_map

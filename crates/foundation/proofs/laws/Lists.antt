@@ -1,12 +1,13 @@
 -- Laws of the words for lists.
 -- Assumes nothing.
-use Prim.Native.Nat.{ℕ, zero, suc, ◌*◌}
+use Prim.Native.Nat.{ℕ, zero, suc, ◌*◌, ◌<◌}
 use native.Mathlib.Nat.{zero-mul, suc-mul, add_comm}
-use mathlib.Core.Path.{◌≡◌, refl, sym, ap, ◌∙◌}
+use native.Mathlib.Omega.{arith}
+use mathlib.Core.Path.{◌≡◌, refl, sym, ap, ap₂, ◌∙◌}
 use mathlib.Core.Bool.{Bool, true, false, cond, and-eq-true_iff}
-use mathlib.Core.List.{List, [], ◌∷◌, ◌++◌, map, flat_map, map-append}
+use mathlib.Core.List.{List, [], ◌∷◌, ◌++◌, map, flat_map, map-append, map-map}
 use lib.ListN.{length, take, get_or, length-append}
-use Rattle.foundation.specs.Lists.{Each, each_cons, pairwise, up_to}
+use Rattle.foundation.specs.Lists.{Each, each_nil, each_cons, pairwise, up_to}
 use Rattle.std.specs.List.{filter, list_all}
 
 module _ {A : Type 0} {P : A → Type 0} {x : A} {xs : List A} where
@@ -57,6 +58,11 @@ module _ {A B : Type 0} (p : B → Bool) (q : A → Bool) (f : A → B) (agree :
   all_map [] = refl
   all_map (x ∷ xs) = rw (agree x, all_map xs)
 
+-- two functions that agree on each element
+pub map_same : {A B : Type 0} (f g : A → B) {xs : List A} → Each (λ (x : A). f x ≡ g x) xs → map f xs ≡ map g xs
+map_same f g each_nil = refl
+map_same f g (each_cons here later) = ap₂ ◌∷◌ here (map_same f g later)
+
 -- lists in turn, each of the same length
 pub length_flat_map : {A B : Type 0} (f : A → List B) (k : ℕ) → ((x : A) → length (f x) ≡ k) → (xs : List A) → length (flat_map f xs) ≡ length xs * k
 unfolding flat_map
@@ -68,3 +74,12 @@ length_flat_map f k same (x ∷ xs) =
 pub up_to_raised : (n : ℕ) → up_to (suc n) ≡ 0 ∷ map suc (up_to n)
 up_to_raised zero = refl
 up_to_raised (suc n) = ap (λ (l : List ℕ). l ++ (suc n ∷ [])) (up_to_raised n) ∙ ap (◌∷◌ 0) (sym (map-append suc (up_to n) (n ∷ [])))
+
+-- what f gives of the number k stands at the index k
+pub numbered_at : (f : ℕ → ℕ) (n k : ℕ) → k < n → get_or (map f (up_to n)) k 0 ≡ f k
+numbered_at f zero k less = absurd (omega (arith, less))
+numbered_at f (suc n) zero less = ap (λ (l : List ℕ). get_or (map f l) 0 0) (up_to_raised n)
+numbered_at f (suc n) (suc k) less =
+    ap (λ (l : List ℕ). get_or (map f l) (suc k) 0) (up_to_raised n)
+    ∙ ap (λ (l : List ℕ). get_or l k 0) (map-map f suc (up_to n))
+    ∙ numbered_at (λ (m : ℕ). f (suc m)) n k (omega (arith, less))

@@ -2,13 +2,14 @@
 -- such a list is ordered, and so are its images and two such lists in turn, where the relation goes
 -- with them.
 -- Assumes nothing.
+use Prim.Native.Nat.{ℕ, zero, suc, ◌<◌}
 use mathlib.Core.Path.{◌≡◌, sym, subst}
 use mathlib.Core.Bool.{Bool}
 use mathlib.Core.List.{List, [], ◌∷◌, ◌++◌, map, flat_map}
-use Rattle.foundation.specs.Lists.{Each, each_nil, each_cons, Ordered, ordered_nil, ordered_cons}
+use Rattle.foundation.specs.Lists.{Each, each_nil, each_cons, Ordered, ordered_nil, ordered_cons, up_to}
 use Rattle.std.specs.List.{filter}
 use Rattle.foundation.proofs.laws.Booleans.{cond_either}
-use Rattle.foundation.proofs.laws.Each.{each_imply, each_always, each_append, each_both, each_filter, each_map, each_flat_map}
+use Rattle.foundation.proofs.laws.Each.{each_imply, each_always, each_append, each_both, each_filter, each_map, each_flat_map, each_up_to}
 
 module _ {A : Type 0} {R : A → A → Type 0} where
   -- elements that are related are related in another way too
@@ -51,6 +52,12 @@ ordered_head (ordered_cons here later) = here
 pub ordered_map : {A B : Type 0} {R : B → B → Type 0} (f : A → B) {xs : List A} → Ordered (λ (x y : A). R (f x) (f y)) xs → Ordered R (map f xs)
 ordered_map f ordered_nil = ordered_nil
 ordered_map f (ordered_cons first rest) = ordered_cons (each_map f first) (ordered_map f rest)
+
+-- the numbers below n ascend
+pub up_to_ordered : (n : ℕ) → Ordered ◌<◌ (up_to n)
+up_to_ordered zero = ordered_nil
+up_to_ordered (suc n) =
+    ordered_append (up_to_ordered n) (ordered_cons each_nil ordered_nil) (each_up_to n λ k less. each_cons less each_nil)
 
 -- what is made of every two elements of two lists, by the first list first and then by the second
 module _

@@ -6,8 +6,7 @@ use mathlib.Core.Path.{◌≡◌, ap, ◌∙◌}
 use mathlib.Core.List.{List}
 use lib.ListN.{length}
 use Rattle.places.specs.declared.Place.{Place}
-use Rattle.event_log_spec.specs.Lines.{frames_of}
-use Rattle.event_log.specs.FrameIndex.{frames_between}
+use Rattle.event_log_spec.specs.Lines.{frames_of, frames_between}
 use Rattle.event_log.proofs.laws.FrameRanges.{frames_all}
 use Rattle.replay_spec.specs.declared.CaseCounts.{CaseCounts}
 use Rattle.replay_spec.specs.Judgement.{case_counts}

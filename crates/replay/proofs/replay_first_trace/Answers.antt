@@ -9,7 +9,7 @@ use Rattle.event_log.proofs.laws.IndexedFrames.{first_found}
 use Rattle.replay_spec.specs.Answers.{first_trace_with}
 use Rattle.replay_spec.proofs.laws.AnswerLaws.{replayed_numbered}
 use Rattle.replay.proofs.laws.Arguments.{log_known, replay_passed, replay_steps}
-use Rattle.replay.proofs.laws.FrameReplay.{frame_digits}
+use Rattle.event_log.proofs.laws.FrameDigits.{frame_digits}
 use Rattle.replay.proofs.replay_first_trace.Goals as goal
 
 pub returns-in_err-unless-clause-numbered : goal.returns-in_err-unless-clause-numbered

@@ -13,10 +13,9 @@ use Rattle.std.specs.List.{flat_map}
 use Rattle.std.proofs.lemmas.List.Concat.{flat_map-append}
 use Rattle.std.proofs.lemmas.List.Folds.{length-flat_map-take}
 use Rattle.foundation.specs.Buffers.{overwrite}
-use Rattle.foundation.proofs.laws.Buffers.{overwrite_more}
+use Rattle.foundation.proofs.laws.Buffers.{overwrite_more, overwrite_part}
 use Rattle.hex_digits.specs.Digits.{write_hex, line_feed}
 use Rattle.hex_digits.proofs.laws.DigitLaws.{length_write}
-use Rattle.writer.proofs.laws.BufferParts.{overwrite_part}
 use Rattle.report_lines.specs.ProgramLines.{field_text, fields_line}
 
 -- the numbers before an index stand in front of the buffer

@@ -8,7 +8,8 @@ use Rattle.hex_digits.specs.Digits.{is_digit}
 use Rattle.places.specs.declared.Place.{Place}
 use Rattle.token_replay.specs.declared.DigitSets.{DigitSets}
 use Rattle.token_replay.specs.declared.Tokens.{Tokens}
-use Rattle.token_replay.specs.Tokens.{after_digit, after_event, after_trace, codes_in, digit_sets}
+use Rattle.event_log_spec.specs.Lines.{codes_in}
+use Rattle.token_replay.specs.Tokens.{after_digit, after_event, after_trace, digit_sets}
 use Rattle.token_replay.proofs.laws.ByDigit.{event_by_digit}
 use Rattle.token_replay.proofs.laws.EventBits.{mag_event}
 use Rattle.token_replay.proofs.laws.EventByEvent.{event_by_event}

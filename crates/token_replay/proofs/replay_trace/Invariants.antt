@@ -10,7 +10,8 @@ use Rattle.hex_digits.specs.Digits.{is_digit}
 use Rattle.places.specs.declared.Place.{Place}
 use Rattle.token_replay.specs.declared.DigitSets.{DigitSets}
 use Rattle.token_replay.specs.declared.Tokens.{Tokens}
-use Rattle.token_replay.specs.Tokens.{after_event, codes_in, digit_sets}
+use Rattle.event_log_spec.specs.Lines.{codes_in}
+use Rattle.token_replay.specs.Tokens.{after_event, digit_sets}
 use Rattle.token_replay.proofs.laws.EventByEvent.{no_tokens}
 use Rattle.token_replay.proofs.replay_trace.Given as goal
 

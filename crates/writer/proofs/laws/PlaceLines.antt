@@ -2,14 +2,13 @@
 -- and a line is filled by the digits of two numbers and one byte after them.
 -- Assumes nothing.
 use Prim.Native.Nat.{ℕ, ◌*◌}
-use native.Mathlib.Nat.{mul_comm}
 use native.Mathlib.Omega.{arith}
-use mathlib.Core.Path.{◌≡◌, sym, ap, ap₂, ◌∙◌}
-use mathlib.Core.List.{List, [], ◌∷◌, ◌++◌, flat_map, append-nil, append_assoc}
+use mathlib.Core.Path.{◌≡◌, ap, ap₂, ◌∙◌}
+use mathlib.Core.List.{List, [], ◌∷◌, ◌++◌, append_assoc}
 use borrow.Rule.Slice.PartMut.{put_mid, post_of}
 use lib.ListN.{length, get_or, take, drop, set, length-append, length-drop, drop_of_length-le}
 use lib.Seq.{length-take-le, drop-cons, drop-drop, take_at, drop_at, set_at}
-use Rattle.foundation.proofs.laws.Lists.{length_flat_map}
+use Rattle.foundation.proofs.laws.Blocks.{length_blocks}
 use Rattle.places.specs.Places.{place_of}
 use Rattle.hex_digits.specs.Digits.{write_hex, line_feed}
 use Rattle.hex_digits.proofs.laws.DigitLaws.{length_write}
@@ -31,7 +30,7 @@ length_line w =
 -- the bytes of a line a place
 pub length_text : (words : List ℕ) → length (list_text words) ≡ line_bytes * length words
 unfolding list_text
-length_text words = length_flat_map place_line line_bytes length_line words ∙ mul_comm (length words) line_bytes
+length_text = length_blocks line_bytes place_line length_line
 
 -- a line in which two numbers were written, with the digits of a set each, and then a line feed
 module _ (line first second : List ℕ) (w : ℕ) (whole : length line ≡ line_bytes) where
@@ -58,10 +57,3 @@ module _ (line first second : List ℕ) (w : ℕ) (whole : length line ≡ line_
       filled long
       ∙ ended long (ap length f' ∙ length_write set_digits (place_of w).outputs)
       ∙ ap₂ (λ (a b : List ℕ). a ++ b ++ (line_feed ∷ [])) e' f'
-
--- the lines of a list and one word more
-pub text_snoc : (words : List ℕ) (w : ℕ) → list_text (words ++ (w ∷ [])) ≡ list_text words ++ place_line w
-unfolding list_text flat_map
-text_snoc [] w = append-nil (place_line w)
-text_snoc (v ∷ words) w =
-    ap (◌++◌ (place_line v)) (text_snoc words w) ∙ sym (append_assoc (place_line v) (flat_map place_line words) (place_line w))

@@ -6,13 +6,14 @@ use Prim.Native.Nat.{◌<◌}
 use native.Mathlib.Omega.{arith}
 use mathlib.Core.Path.{◌≡◌, sym, ap, ◌∙◌}
 use lib.ListN.{length}
-use Rattle.event_log_spec.specs.Lines.{frames_of}
-use Rattle.event_log.specs.FrameIndex.{digits_start, frame_at, frames_between}
+use Rattle.event_log_spec.specs.Lines.{frames_of, frame_at, frames_between}
+use Rattle.event_log.specs.FrameIndex.{digits_start}
 use Rattle.event_log.proofs.laws.IndexedFrames.{frame_under}
 use Rattle.event_log.proofs.laws.FrameRanges.{frames_none, frames_more}
 use Rattle.replay_spec.specs.Judgement.{case_counts}
 use Rattle.replay.proofs.laws.FrameByFrame.{count_part, counts_none, counts_more}
-use Rattle.replay.proofs.laws.FrameReplay.{frame_digits, cases_fit}
+use Rattle.event_log.proofs.laws.FrameDigits.{frame_digits}
+use Rattle.replay.proofs.laws.FrameReplay.{cases_fit}
 use Rattle.replay.proofs.judgement.count_cases.Goals as goal
 
 pub loop-frame-init : goal.loop-frame-init

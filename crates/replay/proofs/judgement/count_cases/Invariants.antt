@@ -2,7 +2,8 @@
 -- end before it begins, `start` is where its digits start.
 -- Assumes nothing.
 use Rattle.std.proofs.Common.{◌≡◌, ◌-◌, ◌≤◌}
-use Rattle.event_log.specs.FrameIndex.{digits_start, frames_between}
+use Rattle.event_log_spec.specs.Lines.{frames_between}
+use Rattle.event_log.specs.FrameIndex.{digits_start}
 use Rattle.replay_spec.specs.Judgement.{case_counts}
 use Rattle.replay.specs.Replaying.{count_row}
 use Rattle.replay.proofs.judgement.count_cases.Given as goal

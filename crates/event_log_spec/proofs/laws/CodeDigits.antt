@@ -9,7 +9,7 @@ use mathlib.Core.List.{List, ◌∷◌, flat_map}
 use Rattle.foundation.specs.Lists.{Each, each_nil, each_cons}
 use Rattle.hex_digits.specs.Digits.{digit_value, digit_byte, write_hex}
 use Rattle.hex_digits.proofs.laws.DigitLaws.{digit_of_lem}
-use Rattle.token_replay.specs.Tokens.{codes_in}
+use Rattle.event_log_spec.specs.Lines.{codes_in}
 
 second_digit : (code : ℕ) → code < 16 → digit_value (digit_byte (code / 1 % 16)) ≡ code
 second_digit code small = ap (λ o. unwrap_or o 0) (digit_of_lem (code / 1 % 16) (omega arith)) ∙ omega arith

@@ -1,0 +1,3 @@
+pub mod Variants
+pub mod Summary
+pub mod SummaryOf
