@@ -120,7 +120,7 @@ module _ (frames : List Frame) (few : length frames ≤ most_frames) (under : Ea
   abbrev words : List ℕ
   words = sorted (frame_words frames)
 
-  -- what is summed variant_at the sorted words is summed variant_at the lines
+  -- what is summed over the sorted words is summed over the lines
   over_lines : (f : ℕ → ℕ) → sum (map f words) ≡ sum (map (λ (line : ℕ). f (word_of frames line)) (up_to (length frames)))
   unfolding frame_words
   over_lines f =

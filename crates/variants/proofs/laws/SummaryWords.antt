@@ -5,29 +5,28 @@
 use Prim.Native.Nat.{ℕ, ◌-◌, ◌*◌, ◌/◌, ◌%◌, ◌≤◌, ◌<◌}
 use native.Mathlib.Omega.{arith}
 use mathlib.Core.Path.{◌≡◌, refl, ap, ap₂, sym, ◌∙◌}
-use mathlib.Core.Bool.{cond}
+use mathlib.Core.Bool.{Bool, cond}
 use mathlib.Core.List.{List, ◌++◌, map, flat_map, map-map}
 use lib.Dec.{ltb}
 use lib.ListN.{length}
 use borrow.Author.Tests.{lt-ltb, ltb-true}
 use Rattle.std.proofs.lemmas.List.Folds.{flat_map-map}
-use Rattle.foundation.specs.Lists.{Each, each_nil, each_cons, up_to, sum}
+use Rattle.std.proofs.lemmas.List.Sums.{length-filter, count_by-le-length}
+use Rattle.foundation.specs.Lists.{Each, each_nil, each_cons, sum}
 use Rattle.foundation.proofs.laws.Booleans.{by_test, same_truth, cond_either}
-use Rattle.foundation.proofs.laws.Each.{each_imply, each_always, each_map, each_up_to, each_filter, length_up_to}
-use Rattle.foundation.proofs.laws.Sums.{sum_le, sum_le_length}
+use Rattle.foundation.proofs.laws.Each.{each_imply, each_always, each_map, each_up_to, each_filter}
+use Rattle.foundation.proofs.laws.Sums.{sum_le, sum_filter}
 use Rattle.sorting.specs.Sorting.{sorted}
 use Rattle.sorting.proofs.laws.Sorted.{sorted_each, sorted_numbers}
 use Rattle.sorting.proofs.laws.Ascending.{same_sorted}
 use Rattle.limits.specs.Settings.{most_activities}
-use Rattle.event_log_spec.specs.Frames.{Frame, FrameUnder, most_frames, total_cases, frame_in}
+use Rattle.event_log_spec.specs.Frames.{Frame, FrameUnder, most_frames, total_cases}
 use Rattle.event_log_spec.proofs.laws.Written.{total_bounded}
 use Rattle.variants_spec.specs.declared.Variant.{Variant}
-use Rattle.variants_spec.specs.Variants.{alike, is_first, variant_of, variants}
+use Rattle.variants_spec.specs.Variants.{same_variant, trace_in, frames_like, is_first, variant_of, variants}
 use Rattle.variants_spec.specs.Summary.{leads, summary, entry}
 use Rattle.variants_spec.specs.SummaryOf.{Leads, by_cases, by_line}
 use Rattle.variants_spec.proofs.laws.Leading.{leads_decides, leads_tested}
-use Rattle.variants_spec.proofs.laws.LineSums.{sum_by_line}
-use Rattle.variants_spec.proofs.laws.Summing.{frames_counted, cases_counted}
 use Rattle.variants.specs.Words.{frame_words, most_cases, line_room, words_end, variant_word, variant_in, entry_in}
 use Rattle.variants.specs.Gathering.{gathered}
 use Rattle.variants.proofs.laws.LogVariants.{gathered_variants}
@@ -79,27 +78,21 @@ module _ (frames : List Frame) (few : length frames ≤ most_frames) (under : Ea
       (λ f. (leads_decides p q).1 (leads_tested p q (λ same. absurd (omega (arith, less, ap variant_word (a.is ∙ ap (variant_of frames) same ∙ sym b.is)))) f)))
 
   module _ (line : ℕ) (less : line < length frames) where
+    abbrev of_it : Frame → Bool
+    of_it f = same_variant (trace_in frames line) f.trace
+
     frames_few : (variant_of frames line).frames ≤ length frames
-    frames_few =
-        omega (
-          arith,
-          frames_counted frames line,
-          sum_le_length (λ (other : ℕ). cond (alike frames line other) 1 0) (λ other. cond_either (λ (n : ℕ). n ≤ 1) (alike frames line other) (omega arith) (omega arith)) (up_to (length frames)),
-          length_up_to (length frames),
-        )
+    unfolding variant_of frames_like
+    frames_few = rw (length-filter of_it frames) (count_by-le-length of_it frames)
 
     cases_few : (variant_of frames line).cases ≤ total_cases frames
-    unfolding total_cases
+    unfolding variant_of frames_like total_cases
     cases_few =
-        omega (
-          arith,
-          cases_counted frames line,
-          sum_le
-              (λ (other : ℕ). cond (alike frames line other) (frame_in frames other).cases 0)
-              (λ (other : ℕ). (frame_in frames other).cases)
-              (each_always (λ other. cond_either (λ (n : ℕ). n ≤ (frame_in frames other).cases) (alike frames line other) (omega arith) (omega arith)) (up_to (length frames))),
-          sum_by_line (λ (f : Frame). f.cases) frames,
-        )
+        rw (sum_filter (λ (f : Frame). f.cases) of_it frames) (
+        sum_le
+        (λ (f : Frame). cond (of_it f) f.cases 0)
+        (λ (f : Frame). f.cases)
+        (each_always (λ f. cond_either (λ (n : ℕ). n ≤ f.cases) (of_it f) (omega arith) (omega arith)) frames))
 
     line_variant : VariantOf (variant_of frames line)
     unfolding variant_of

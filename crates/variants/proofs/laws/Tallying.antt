@@ -12,6 +12,7 @@ use borrow.Author.Tests.{eqb-true, eqb-false, eq-eqb}
 use Rattle.std.specs.List.{list_all}
 use Rattle.std.proofs.lemmas.Grind.{same_number_lists}
 use Rattle.std.proofs.lemmas.List.{get_or-set_same, get_or-set_other, get_or-replicate, length-replicate, length-set, length-map}
+use Rattle.std.proofs.lemmas.List.Sums.{length-filter, count_by-le-length}
 use Rattle.foundation.specs.Lists.{Each, up_to}
 use Rattle.foundation.proofs.laws.Booleans.{by_test}
 use Rattle.foundation.proofs.laws.Lists.{numbered_at}
@@ -35,12 +36,7 @@ occurs_more code trace a = by_test (eqb a code) (λ t. rw t (omega arith)) (λ f
 -- no activity occurs more often than there are events, or codes than pairs of digits
 pub occurs_few : (trace : List ℕ) (a : ℕ) → occurrences trace a ≤ length trace
 unfolding occurrences
-occurs_few [] a = omega arith
-occurs_few (code ∷ trace) a =
-    by_test
-    (eqb a code)
-    (λ t. omega (arith, occurs_more code trace a, ap one t, occurs_few trace a))
-    (λ f. omega (arith, occurs_more code trace a, ap one f, occurs_few trace a))
+occurs_few trace a = rw (length-filter (eqb a) trace) (count_by-le-length (eqb a) trace)
 
 codes_few : (digits : List ℕ) → 2 * length (codes_in digits) ≤ length digits
 unfolding codes_in

@@ -12,12 +12,12 @@ use lib.ListN.{length}
 use Rattle.std.specs.List.{filter}
 use Rattle.std.proofs.lemmas.List.Sorted.{length_permutation}
 use Rattle.std.proofs.lemmas.List.{length-map}
-use Rattle.foundation.proofs.laws.Booleans.{cond_either}
+use Rattle.std.proofs.lemmas.List.Sums.{length-filter, count_by-le-length}
 use Rattle.foundation.specs.Lists.{Each, Ordered, up_to, sum}
 use Rattle.foundation.proofs.laws.Each.{each_always, each_up_to, each_map, each_at, length_up_to}
 use Rattle.foundation.proofs.laws.Members.{each_member, members_each, member_filter}
 use Rattle.foundation.proofs.laws.Ordered.{ordered_imply, ordered_filter, ordered_map, up_to_ordered}
-use Rattle.foundation.proofs.laws.Sums.{sum_filter, sum_le_length, sum_ones, count_passing, sum_exchange}
+use Rattle.foundation.proofs.laws.Sums.{sum_filter, sum_ones, count_passing, sum_exchange}
 use Rattle.foundation.proofs.laws.Lists.{map_same}
 use Rattle.sorting.proofs.laws.Sorted.{sorted_moves, sorted_each, sorted_ordered}
 use Rattle.sorting.proofs.laws.SameSums.{SameSums, moved_sums}
@@ -39,7 +39,7 @@ module _ (frames : List Frame) where
   abbrev pub firsts : List ℕ
   firsts = filter (is_first frames) all_lines
 
-  -- the numbers that a variant shows, as sums over the all_lines
+  -- the numbers that a variant shows, as sums over the lines
   module _ (first : ℕ) where
     pub frames_counted : (variant_of frames first).frames ≡ sum (map (λ (line : ℕ). cond (alike frames first line) 1 0) all_lines)
     unfolding variant_of frames_like
@@ -58,7 +58,7 @@ module _ (frames : List Frame) where
   unfolding summary
   summary_moves = moved_sums (variants frames) (summary frames) (sorted_moves leads (variants frames))
 
-  -- what is summed over the summary is summed over the first all_lines
+  -- what is summed over the summary is summed over the first lines
   over_firsts : (f : Variant → ℕ) → sum (map f (summary frames)) ≡ sum (map (λ (first : ℕ). f (variant_of frames first)) firsts)
   unfolding variants
   over_firsts f = sym (summary_moves f) ∙ ap sum (map-map f (variant_of frames) firsts)
@@ -76,12 +76,12 @@ module _ (frames : List Frame) where
         arith,
         as_many,
         length-map firsts (variant_of frames),
-        count_passing (is_first frames) all_lines,
-        sum_le_length (λ (line : ℕ). cond (is_first frames line) 1 0) (λ line. cond_either (λ (n : ℕ). n ≤ 1) (is_first frames line) (omega arith) (omega arith)) all_lines,
+        length-filter (is_first frames) all_lines,
+        count_by-le-length (is_first frames) all_lines,
         length_up_to (length frames),
       )
 
-  -- weights of the all_lines, each with its first line, are the weights of the all_lines
+  -- weights of the lines, each with its first line, are the weights of the lines
   weights_once : (weight : ℕ → ℕ)
       → sum (map (λ (first : ℕ). sum (map (λ (line : ℕ). cond (alike frames first line) (weight line) 0) all_lines)) firsts)
       ≡ sum (map weight all_lines)
