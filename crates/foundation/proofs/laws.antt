@@ -3,6 +3,7 @@ pub mod Lists
 pub mod Each
 pub mod Any
 pub mod Filtering
+pub mod Positions
 pub mod Members
 pub mod Sublists
 pub mod Ordered

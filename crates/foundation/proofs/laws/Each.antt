@@ -38,6 +38,11 @@ module _ {A : Type 0} {P : A → Type 0} where
   each_at zero d (each_cons here later) less = here
   each_at (suc n) d (each_cons here later) less = each_at n d later (omega arith)
 
+  -- what holds at every place of a list holds of each of its elements
+  pub each_placed : (d : A) (xs : List A) → ((n : ℕ) → n < length xs → P (get_or xs n d)) → Each P xs
+  each_placed d [] h = each_nil
+  each_placed d (x ∷ xs) h = each_cons (h 0 (omega arith)) (each_placed d xs λ n less. h (suc n) (omega (arith, less)))
+
   pub each_append : {xs ys : List A} → Each P xs → Each P ys → Each P (xs ++ ys)
   each_append each_nil e = e
   each_append (each_cons here later) e = each_cons here (each_append later e)

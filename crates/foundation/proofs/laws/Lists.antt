@@ -9,6 +9,7 @@ use mathlib.Core.List.{List, [], ◌∷◌, ◌++◌, map, flat_map, map-append,
 use lib.ListN.{length, take, get_or, length-append}
 use Rattle.foundation.specs.Lists.{Each, each_nil, each_cons, pairwise, up_to}
 use Rattle.std.specs.List.{filter, list_all}
+use Rattle.std.proofs.lemmas.List.{map-id}
 
 module _ {A : Type 0} {P : A → Type 0} {x : A} {xs : List A} where
   pub each_head : Each P (x ∷ xs) → P x
@@ -83,3 +84,7 @@ numbered_at f (suc n) (suc k) less =
     ap (λ (l : List ℕ). get_or (map f l) (suc k) 0) (up_to_raised n)
     ∙ ap (λ (l : List ℕ). get_or l k 0) (map-map f suc (up_to n))
     ∙ numbered_at (λ (m : ℕ). f (suc m)) n k (omega (arith, less))
+
+-- and of the numbers themselves, each stands at its own index
+pub counted_at : (n k : ℕ) → k < n → get_or (up_to n) k 0 ≡ k
+counted_at n k less = ap (λ (l : List ℕ). get_or l k 0) (sym (map-id (up_to n))) ∙ numbered_at (λ (m : ℕ). m) n k less
