@@ -14,7 +14,8 @@
  *   Text, a frame for each line: eight digits of how many cases went this way (00000001 to
  *   FFFFFFFF), two digits for each activity, a line feed. Digits are 0-9 and A-F. A frame has 2 to
  *   254 activities, starts with 00, ends with 01 and has neither in between. A log has 1 to 4,096
- *   frames, and so at most 17,592,186,040,320 cases, a number of 64 bits. Lines count from 0.
+ *   frames, and so at most 17,592,186,040,320 cases, a number of 64 bits. Lines count from 0. The
+ *   trace of a frame has an event for each activity, in order, and they too count from 0.
  *
  * Answers
  *   Every call but placelist_version returns the number of its refusal, an enum placelist_refusal:
@@ -27,7 +28,8 @@
  *   - Every pointer is valid for its length, which counts elements and not bytes, and is aligned for
  *     its type. No buffer is larger than PTRDIFF_MAX bytes. Buffers that a call reads hold
  *     initialised elements; those that it writes may hold anything.
- *   - No pointer to a result is null: neither value, nor counts, least, last, verdict, run or count.
+ *   - No pointer to a result is null: neither value, nor counts, least, last, missing, verdict, line,
+ *     event, run or count.
  *   - No two of the things that a call is given overlap: buffers, results and value.
  *   - While a call runs, no other thread writes to what it was given, and none reads what it writes
  *     to.
@@ -45,7 +47,7 @@
  *
  * The stack
  *   A call takes at most PLACELIST_MOST_STACK bytes of the stack of the thread that makes it. That
- *   is measured, not proved: check, replay and write take less than 200, reduce 26,300, judge and
+ *   is measured, not proved: check, replay and write take less than 300, reduce 26,300, judge and
  *   search 33,200, report 74,300, summarize 99,500, of which 98,304 are its two work arrays, the
  *   index of the log and a word for each frame. library/tests/stack.c measures it again, and the
  *   tests hold it to the constant. Its inputs drive each call to its deepest, but for summarize,
@@ -72,8 +74,8 @@ extern "C" {
  * The version of this header. The major part is raised where a format or the arguments of a call
  * change, and is the number in the name of the shared object; the minor where something is added.
  */
-#define PLACELIST_VERSION_MAJOR 2
-#define PLACELIST_VERSION_MINOR 1
+#define PLACELIST_VERSION_MAJOR 3
+#define PLACELIST_VERSION_MINOR 0
 #define PLACELIST_VERSION_PATCH 0
 #define PLACELIST_VERSION \
     (PLACELIST_VERSION_MAJOR * 65536 + PLACELIST_VERSION_MINOR * 256 + PLACELIST_VERSION_PATCH)
@@ -187,6 +189,9 @@ enum placelist_run_index {
     PLACELIST_RUN_LENGTH = 5
 };
 
+/* What a result that is the index of an event or a line holds where there is none. */
+#define PLACELIST_NONE (-1)
+
 /* ---- Words ---- */
 
 /*
@@ -294,11 +299,15 @@ uint8_t placelist_check(uint8_t activities, const uint8_t *text, size_t text_len
  *                    underfeeds the place
  *   last             [end] the balance after the trace: -254 to 254. Above 0 the trace overfeeds the
  *                    place
+ *   missing          the first event at which a token is missing, that is, at which the balance,
+ *                    taken as for least, is below 0: its index, 0 to 253. PLACELIST_NONE where there
+ *                    is none, and so exactly where least is 0
  *
  * Refusals, in order: 1 (activities), 7 (value 0), 6, then of the first faulty line 5, 2, 3 or 4.
  */
 uint8_t placelist_replay(uint8_t activities, const uint8_t *text, size_t text_len, uint16_t inputs,
-                         uint16_t outputs, uint64_t *value, int16_t *least, int16_t *last);
+                         uint16_t outputs, uint64_t *value, int16_t *least, int16_t *last,
+                         int32_t *missing);
 
 /*
  * Judges a place over a log.
@@ -312,13 +321,19 @@ uint8_t placelist_replay(uint8_t activities, const uint8_t *text, size_t text_le
  *   counts           the cases that fit, that are underfed only, overfed only, and both: each is at
  *                    most 17,592,186,040,320, as their sum is
  *   verdict          an enum placelist_verdict
+ *   line             the first line whose trace underfeeds the place: 0 to 4,095. PLACELIST_NONE where
+ *                    no trace does, and so exactly where counts has 0 for underfed only and for both
+ *   event            the first event of that line at which a token is missing, as in
+ *                    placelist_replay: 0 to 253. PLACELIST_NONE where there is no such line. Line and
+ *                    event do not depend on the threshold
  *
  * Refusals, in order: 1 (activities, threshold), 7 (value 0), 6, then of the first faulty line 5, 2, 3
  * or 4.
  */
 uint8_t placelist_judge(uint8_t activities, uint16_t threshold, const uint8_t *text, size_t text_len,
                         uint16_t inputs, uint16_t outputs, uint64_t *value,
-                        uint64_t counts[PLACELIST_CASES_LENGTH], uint8_t *verdict);
+                        uint64_t counts[PLACELIST_CASES_LENGTH], uint8_t *verdict, int32_t *line,
+                        int32_t *event);
 
 /*
  * Summarizes a log by its variants [kinds]: how many there are, and of each where it begins, how

@@ -5,13 +5,17 @@ mod lists;
 mod logs;
 mod padding;
 mod random;
+mod underfed;
 mod variants;
 
 pub use damage::{each_changed_byte, faulty_lines, faulty_logs};
 pub use lists::{random_list, random_valid_list};
-pub use logs::{halved_log, log_of_bytes, long_log, process_log, random_log, text_of, LogShape};
+pub use logs::{
+    halved_log, log_of_bytes, long_log, process_log, random_log, short_logs, text_of, LogShape,
+};
 pub use padding::{padded_input, padded_log};
 pub use random::Random;
+pub use underfed::{log_underfed_from, place_from_2_to_3, UNDERFED_BOUND};
 pub use variants::{different_bags, log_of_bags, random_bags, Bag, Counts};
 
 use crate::model::{Place, Settings};

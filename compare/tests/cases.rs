@@ -1,8 +1,8 @@
 //! The cases of the written scope, on the second implementation.
 
 use compare::model::{
-    check, judge, program_text, reduce, replay, search, Balances, End, Place, Run, Settings,
-    Verdict,
+    check, judge, program_text, reduce, replay, search, Balances, End, MissingToken, Place, Run,
+    Settings, Verdict,
 };
 
 const ONE_TRACE: &[u8] = b"00000001000203040501\n";
@@ -22,11 +22,23 @@ fn place(inputs: u16, outputs: u16) -> Place {
     Place { inputs, outputs }
 }
 
-fn assert_balances(activities: u8, text: &[u8], place: Place, least: i16, last: i16) {
-    assert_eq!(
-        replay(activities, text, place),
-        Ok(Balances { least, last })
-    );
+/// Holds the replay of a trace to these figures, and the judgement of it as a log of one line.
+fn assert_balances(
+    activities: u8,
+    text: &[u8],
+    place: Place,
+    (least, last): (i16, i16),
+    first_missing: Option<usize>,
+) {
+    let balances = Balances {
+        least,
+        last,
+        first_missing,
+    };
+    assert_eq!(replay(activities, text, place), Ok(balances));
+    let judgement = judge(activities, 0, text, place).unwrap();
+    let on_line_0 = |event| MissingToken { line: 0, event };
+    assert_eq!(judgement.first_underfed, first_missing.map(on_line_0));
 }
 
 /// Runs the search of M11 and compares its counts.
@@ -50,12 +62,12 @@ fn assert_run(rejected: usize, found: usize, budget: u32, expected: Run) {
 
 #[test]
 fn m1_to_m6_balances() {
-    assert_balances(6, ONE_TRACE, place(0x0001, 0x0004), 0, 0);
-    assert_balances(6, ONE_TRACE, place(0x0004, 0x0030), -1, -1);
-    assert_balances(6, ONE_TRACE, place(0x0030, 0x0002), 0, 1);
-    assert_balances(6, UNEVEN_TRACE, place(0x0004, 0x0030), -1, 1);
-    assert_balances(6, UNEVEN_TRACE, place(0x0001, 0x0004), -1, -1);
-    assert_balances(3, ONE_STEP, place(0x0004, 0x0004), -1, 0);
+    assert_balances(6, ONE_TRACE, place(0x0001, 0x0004), (0, 0), None);
+    assert_balances(6, ONE_TRACE, place(0x0004, 0x0030), (-1, -1), Some(4));
+    assert_balances(6, ONE_TRACE, place(0x0030, 0x0002), (0, 1), None);
+    assert_balances(6, UNEVEN_TRACE, place(0x0004, 0x0030), (-1, 1), Some(1));
+    assert_balances(6, UNEVEN_TRACE, place(0x0001, 0x0004), (-1, -1), Some(3));
+    assert_balances(3, ONE_STEP, place(0x0004, 0x0004), (-1, 0), Some(1));
 }
 
 #[test]
@@ -65,7 +77,23 @@ fn m7_threshold() {
         assert_eq!(judgement.verdict, verdict);
         assert_eq!(judgement.overfed + judgement.both, 42);
         assert_eq!(judgement.fitting + judgement.underfed, 58);
+        assert_eq!(judgement.first_underfed, None);
     }
+}
+
+/// In two of the traces of M7 activity 5 stands where the others have 4.
+#[test]
+fn m7_underfed() {
+    let first_underfed = |inputs, outputs| {
+        let judgement = judge(6, 1000, FOUR_TRACES, place(inputs, outputs));
+        let missing = judgement.unwrap().first_underfed?;
+        Some((missing.line, missing.event))
+    };
+    assert_eq!(first_underfed(0x0010, 0x0002), Some((2, 4)));
+    assert_eq!(first_underfed(0x0010, 0x0020), Some((2, 3)));
+    assert_eq!(first_underfed(0x0004, 0x0008), Some((1, 1)));
+    assert_eq!(first_underfed(0x0008, 0x0004), Some((0, 1)));
+    assert_eq!(first_underfed(0x0030, 0x0002), None);
 }
 
 #[test]

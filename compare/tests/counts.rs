@@ -1,6 +1,6 @@
 //! Case counts at their limits, on the second implementation.
 
-use compare::model::{check, judge, Judgement, LogSize, Place, Verdict};
+use compare::model::{check, judge, Judgement, LogSize, MissingToken, Place, Verdict};
 
 #[test]
 fn counts_have_eight_digits() {
@@ -54,6 +54,10 @@ fn one_case_decides_among_the_most() {
             overfed: 0,
             both: 0,
             verdict,
+            first_underfed: Some(MissingToken {
+                line: 2048,
+                event: 1,
+            }),
         };
         assert_eq!(judged(missing, threshold), expected);
     }

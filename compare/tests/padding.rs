@@ -9,8 +9,8 @@ use compare::generate::{
     random_place, random_settings, settings_line, text_of, LogShape, Random,
 };
 use compare::model::{
-    Balances, End, Judgement, Listing, LogSize, Place, Reader, Refusal, Run, Settings, Verdict,
-    MOST_FRAMES, MOST_INPUT, MOST_OUTPUT, READER,
+    Balances, End, Judgement, Listing, LogSize, MissingToken, Place, Reader, Refusal, Run,
+    Settings, Verdict, MOST_FRAMES, MOST_INPUT, MOST_OUTPUT, READER,
 };
 use std::fmt::Debug;
 
@@ -185,15 +185,19 @@ fn zeros_stand_before_every_line() {
 #[test]
 fn m1_to_m6_stay() {
     let mut padded = Padded::new();
-    for (activities, text, place, least, last) in [
-        (6, ONE_TRACE, place(0x0001, 0x0004), 0, 0),
-        (6, ONE_TRACE, place(0x0004, 0x0030), -1, -1),
-        (6, ONE_TRACE, place(0x0030, 0x0002), 0, 1),
-        (6, UNEVEN_TRACE, place(0x0004, 0x0030), -1, 1),
-        (6, UNEVEN_TRACE, place(0x0001, 0x0004), -1, -1),
-        (3, ONE_STEP, place(0x0004, 0x0004), -1, 0),
+    for (activities, text, place, least, last, first_missing) in [
+        (6, ONE_TRACE, place(0x0001, 0x0004), 0, 0, None),
+        (6, ONE_TRACE, place(0x0004, 0x0030), -1, -1, Some(4)),
+        (6, ONE_TRACE, place(0x0030, 0x0002), 0, 1, None),
+        (6, UNEVEN_TRACE, place(0x0004, 0x0030), -1, 1, Some(1)),
+        (6, UNEVEN_TRACE, place(0x0001, 0x0004), -1, -1, Some(3)),
+        (3, ONE_STEP, place(0x0004, 0x0004), -1, 0, Some(1)),
     ] {
-        let balances = Balances { least, last };
+        let balances = Balances {
+            least,
+            last,
+            first_missing,
+        };
         assert_eq!(padded.replay(activities, text, place), Ok(balances));
     }
 }
@@ -213,6 +217,7 @@ fn m7_stays() {
             overfed: 42,
             both: 0,
             verdict,
+            first_underfed: None,
         };
         let place = place(0x0001, 0x0010);
         assert_eq!(
@@ -220,6 +225,21 @@ fn m7_stays() {
             Ok(judgement)
         );
     }
+}
+
+#[test]
+fn the_first_underfed_line_of_m7_stays() {
+    let mut padded = Padded::new();
+    let judgement = Judgement {
+        fitting: 0,
+        underfed: 42,
+        overfed: 58,
+        both: 0,
+        verdict: Verdict::Overfed,
+        first_underfed: Some(MissingToken { line: 2, event: 3 }),
+    };
+    let place = place(0x0010, 0x0020);
+    assert_eq!(padded.judge(6, 420, FOUR_TRACES, place), Ok(judgement));
 }
 
 #[test]
@@ -356,6 +376,17 @@ fn unpadded(text: &[u8]) -> Option<Vec<u8>> {
     lines.map(|lines| lines.concat())
 }
 
+/// Logs of the most lines, of which a chosen one is the first that underfeeds the place.
+fn first_underfed_lines(padded: &mut Padded) {
+    for line in [0, 1, 255, 256, MOST_FRAMES - 1] {
+        let fitting = "0001000201\n";
+        let text = fitting.repeat(line) + &"00010001\n".repeat(MOST_FRAMES - line);
+        let judgement = padded.judge(3, 0, text.as_bytes(), place(0x0004, 0x0002));
+        let missing = MissingToken { line, event: 1 };
+        assert_eq!(judgement.unwrap().first_underfed, Some(missing));
+    }
+}
+
 /// Settings and places beyond their ranges, and texts of all kinds.
 fn refused_arguments(padded: &mut Padded) {
     for text in [
@@ -400,6 +431,7 @@ fn every_answer_stays() {
     random_logs(&mut padded, &mut random);
     changed_bytes(&mut padded, &mut random);
     faulty_texts(&mut padded);
+    first_underfed_lines(&mut padded);
     refused_arguments(&mut padded);
     long_programs(&mut padded);
     let mut unreached = padded.library.tally.unreached(required(false));

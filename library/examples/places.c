@@ -1,5 +1,6 @@
 /*
- * Lists the places of a log, and says of each how many cases fit it.
+ * Lists the places of a log, and says of each how many cases fit it, and where the first token is
+ * missing, if one is.
  *
  *     places FILE
  *
@@ -124,22 +125,29 @@ static int reduce(struct buffers *b, struct list *list)
     return 1;
 }
 
-/* Judges one place of the list: *fitting is the number of cases that fit it. */
-static int judge(const struct settings *s, const struct log *log, uint32_t word, uint64_t *fitting)
+/* Judges one place of the list, and writes its line. */
+static int write_place(const struct settings *s, const struct log *log, uint64_t cases, uint32_t word,
+                       const uint8_t *digits)
 {
     uint64_t value, counts[PLACELIST_CASES_LENGTH];
+    int32_t line, event;
     uint8_t verdict;
     uint8_t number = placelist_judge(s->activities, s->threshold, log->bytes, log->length,
                                      placelist_inputs(word), placelist_outputs(word), &value, counts,
-                                     &verdict);
+                                     &verdict, &line, &event);
     if (refused("the judgement", number, value)) {
         return 0;
     }
-    *fitting = counts[PLACELIST_CASES_FITTING];
+    printf("%.*s: %" PRIu64 " of %" PRIu64 " cases fit", PLACELIST_LINE_BYTES - 1,
+           (const char *)digits, counts[PLACELIST_CASES_FITTING], cases);
+    if (line != PLACELIST_NONE) {
+        printf("; first missing token: line %" PRId32 ", event %" PRId32, line, event);
+    }
+    printf("\n");
     return 1;
 }
 
-/* Writes the list, with how many cases fit each place. */
+/* Writes the list, a line for each place. */
 static int write_list(const struct settings *s, const struct log *log, uint64_t cases,
                       struct buffers *b, const struct list *list)
 {
@@ -150,13 +158,10 @@ static int write_list(const struct settings *s, const struct log *log, uint64_t 
         return 0;
     }
     for (size_t i = 0; i < list->length; i++) {
-        const uint8_t *line = b->text + i * PLACELIST_LINE_BYTES;
-        uint64_t fitting;
-        if (!judge(s, log, list->words[i], &fitting)) {
+        const uint8_t *digits = b->text + i * PLACELIST_LINE_BYTES;
+        if (!write_place(s, log, cases, list->words[i], digits)) {
             return 0;
         }
-        printf("%.*s: %" PRIu64 " of %" PRIu64 " cases fit\n", PLACELIST_LINE_BYTES - 1,
-               (const char *)line, fitting, cases);
     }
     return 1;
 }

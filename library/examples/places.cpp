@@ -1,5 +1,6 @@
 /*
- * Lists the places of a log, and says of each how many cases fit it.
+ * Lists the places of a log, and says of each how many cases fit it, and where the first token is
+ * missing, if one is.
  *
  *     places FILE
  *
@@ -155,19 +156,25 @@ Words reduce(const Words &words)
     return kept;
 }
 
-// How many cases fit a place.
-uint64_t count_fitting(const Input &input, uint32_t word)
+// Judges a place of the list, and writes its line.
+void write_place(const Input &input, uint64_t cases, uint32_t word, const std::string &digits)
 {
     uint64_t value, counts[PLACELIST_CASES_LENGTH];
+    int32_t line, event;
     uint8_t verdict;
     const uint8_t number = placelist_judge(
         input.activities, input.threshold, input.log.data(), input.log.size(),
-        placelist_inputs(word), placelist_outputs(word), &value, counts, &verdict);
+        placelist_inputs(word), placelist_outputs(word), &value, counts, &verdict, &line, &event);
     expect("the judgement", number, value);
-    return counts[PLACELIST_CASES_FITTING];
+    std::cout << digits << ": " << counts[PLACELIST_CASES_FITTING] << " of " << cases
+              << " cases fit";
+    if (line != PLACELIST_NONE) {
+        std::cout << "; first missing token: line " << line << ", event " << event;
+    }
+    std::cout << "\n";
 }
 
-// Writes the list, with how many cases fit each place.
+// Writes the list, a line for each place.
 void write_list(const Input &input, uint64_t cases, const Words &words)
 {
     Bytes text(words.size() * PLACELIST_LINE_BYTES);
@@ -177,9 +184,7 @@ void write_list(const Input &input, uint64_t cases, const Words &words)
     expect("the writing", number, value);
     auto line = text.begin();
     for (const uint32_t word : words) {
-        const std::string place(line, line + PLACELIST_LINE_BYTES - 1);
-        std::cout << place << ": " << count_fitting(input, word) << " of " << cases
-                  << " cases fit\n";
+        write_place(input, cases, word, std::string(line, line + PLACELIST_LINE_BYTES - 1));
         line += PLACELIST_LINE_BYTES;
     }
 }

@@ -1,15 +1,15 @@
 """The places of a case log, from a library that is proved.
 
 A *place* has a set of input activities, which each put a token in, and a set of output activities,
-which each take one out. This module checks a log, replays and judges a place on it, summarizes its
-variants, searches all places that the log fits, reduces a list of places and writes it. Every call
-of the library is proved to answer what its written scope says, whose own word for a thing stands in
-brackets; this module hands arguments and answers over.
+which each take one out. This module checks a log, replays and judges a place on it, saying where
+the first token is missing, summarizes its variants, searches all places that the log fits, reduces
+a list of places and writes it. Every call of the library is proved to answer what its written scope
+says, whose own word for a thing stands in brackets; this module hands arguments and answers over.
 
 An activity is a code from 0 to 15: 0 is the start of a case, 1 its end. A set is a number of 16
 bits, with the bit `1 << code` for each activity. A log is bytes, a frame for each line: eight
 hexadecimal digits of how many cases went this way, two for each activity, a line feed. Lines count
-from 0.
+from 0, and so do the events of a trace, one for each activity of its frame.
 
 >>> log = b"00000001000201\\n"  # one case: 0, 2, 1
 >>> check(3, log)
@@ -24,6 +24,8 @@ b'00010002\\n00040002\\n00010004\\n'
 ({0}, {1})
 >>> judge(3, 0, log, kept[0]).fitting
 1
+>>> judge(3, 0, log, Place.from_codes({1}, {2})).first_underfed  # 2 before any 1
+MissingToken(line=0, event=1)
 >>> summarize(3, log)
 [Variant(first_line=0, frames=1, cases=1)]
 >>> check(2, log)
@@ -49,12 +51,12 @@ without it is an ImportError.
 
 import ctypes
 import os
-from ctypes import POINTER, byref, c_char_p, c_int16, c_size_t
+from ctypes import POINTER, byref, c_char_p, c_int16, c_int32, c_size_t
 from ctypes import c_uint8, c_uint16, c_uint32, c_uint64
 from enum import IntEnum
 from math import comb
 from operator import index
-from typing import Any, Iterable, List, NamedTuple, Set, Tuple, Union
+from typing import Any, Iterable, List, NamedTuple, Optional, Set, Tuple, Union
 
 __all__ = [
     "LEAST_ACTIVITIES", "MOST_ACTIVITIES", "MOST_THRESHOLD",
@@ -62,8 +64,8 @@ __all__ = [
     "MOST_INPUT", "MOST_OUTPUT", "PROGRAM_REJECTED", "PROGRAM_FOUND", "PROGRAM_BUDGET",
     "MOST_STACK",
     "Verdict", "End", "RefusalKind", "Refusal",
-    "Settings", "Place", "LogSize", "Balances", "Judgement", "Variant", "Rejected", "Run",
-    "Version", "Log",
+    "Settings", "Place", "LogSize", "Balances", "MissingToken", "Judgement", "Variant", "Rejected",
+    "Run", "Version", "Log",
     "check", "replay", "judge", "summarize", "search", "reduce", "write", "report", "version",
 ]
 
@@ -238,19 +240,31 @@ class LogSize(NamedTuple):
 
 
 class Balances(NamedTuple):
-    """The token balances of a trace on a place.
+    """The token balances of a trace on a place, and where the first token is missing.
 
     The least is taken at each event after its outputs and before its inputs: below 0 the trace
     underfeeds the place. The last is that after the trace: above 0 the trace overfeeds the place.
+    A token is missing at an event whose balance, taken as for the least, is below 0.
     """
 
     least: int
     last: int
+    first_missing: Optional[int]  # the first such event, 0 to 253; None exactly where least is 0
+
+
+class MissingToken(NamedTuple):
+    """Where in a log a token is missing."""
+
+    line: int  # 0 to 4,095
+    event: int  # of that line, 0 to 253
 
 
 class Judgement(NamedTuple):
-    """Four numbers of cases, which add up to all cases of the log, at most 17,592,186,040,320, and
-    the verdict.
+    """Four numbers of cases, which add up to all cases of the log, at most 17,592,186,040,320, the
+    verdict, and where the first token is missing.
+
+    That is in the first line whose trace underfeeds the place, at any threshold, at its first event
+    at which a token is missing. It is None exactly where `underfed` and `both` are 0.
     """
 
     fitting: int
@@ -258,6 +272,7 @@ class Judgement(NamedTuple):
     overfed: int  # only overfed
     both: int
     verdict: Verdict
+    first_underfed: Optional[MissingToken]
 
 
 class Variant(NamedTuple):
@@ -290,8 +305,8 @@ class Run(NamedTuple):
 class Version(NamedTuple):
     """The version of the library: of its calls, and of the formats that they read and write.
 
-    >>> str(Version(2, 0, 0))
-    '2.0.0'
+    >>> str(Version(3, 0, 0))
+    '3.0.0'
     """
 
     major: int
@@ -306,11 +321,12 @@ Log = Union[bytes, bytearray, memoryview]
 
 # ---- The shared object ----
 
-_MAJOR = 2
+_MAJOR = 3
 _SONAME = f"libplacelist.so.{_MAJOR}"
 
 _BYTES = POINTER(c_uint8)
 _SHORT = POINTER(c_int16)
+_INDEX = POINTER(c_int32)
 _PLACES = POINTER(c_uint32)
 _LONGS = POINTER(c_uint64)
 
@@ -320,8 +336,8 @@ _LIST = (_PLACES, c_size_t)
 
 _PARAMETERS = {
     "check": (c_uint8, *_TEXT, _LONGS, _LONGS),
-    "replay": (c_uint8, *_TEXT, *_SETS, _LONGS, _SHORT, _SHORT),
-    "judge": (c_uint8, c_uint16, *_TEXT, *_SETS, _LONGS, _LONGS, _BYTES),
+    "replay": (c_uint8, *_TEXT, *_SETS, _LONGS, _SHORT, _SHORT, _INDEX),
+    "judge": (c_uint8, c_uint16, *_TEXT, *_SETS, _LONGS, _LONGS, _BYTES, _INDEX, _INDEX),
     "summarize": (c_uint8, *_TEXT, _LONGS, c_size_t, _LONGS, _LONGS),
     "search": (c_uint8, c_uint8, c_uint8, c_uint16, *_TEXT, c_uint32, _LONGS, c_size_t, *_LIST,
                _LONGS, _LONGS),
@@ -374,7 +390,9 @@ def _load() -> ctypes.CDLL:
 
 _library = _load()
 
-# ---- What the calls are given ----
+# ---- What the calls are given, and what they give ----
+
+_NONE = -1  # what the place for an index holds where there is none
 
 _Sizes = c_uint64 * 2
 _Cases = c_uint64 * 4
@@ -443,6 +461,16 @@ def _accept(number: int, value: c_uint64) -> None:
         raise Refusal(number, value.value)
 
 
+def _index(number: c_int32) -> Optional[int]:
+    """An index, if there is one."""
+    return None if number.value == _NONE else number.value
+
+
+def _missing_token(line: c_int32, event: c_int32) -> Optional[MissingToken]:
+    """Where a token is missing, if one is."""
+    return None if line.value == _NONE else MissingToken(line.value, event.value)
+
+
 # ---- Calls ----
 
 
@@ -466,31 +494,40 @@ def replay(activities: int, log: Log, place: Place) -> Balances:
     Refusals, in order: 1, 7, 6, then of the first faulty line 5, 2, 3 or 4.
 
     >>> replay(6, b"0000000100040202030301\\n", Place(0x0004, 0x0030))
-    Balances(least=-1, last=1)
+    Balances(least=-1, last=1, first_missing=1)
     """
     text = _bytes(log)
-    value, least, last = c_uint64(), c_int16(), c_int16()
+    value, least, last, missing = c_uint64(), c_int16(), c_int16(), c_int32()
     number = _library.placelist_replay(
         _setting(activities, _BYTE), text, len(text), *_sets(place),
-        byref(value), byref(least), byref(last),
+        byref(value), byref(least), byref(last), byref(missing),
     )
     _accept(number, value)
-    return Balances(least.value, last.value)
+    return Balances(least.value, last.value, _index(missing))
 
 
 def judge(activities: int, threshold: int, log: Log, place: Place) -> Judgement:
-    """Judges a place over a log: how many cases fit it, and the verdict at a threshold.
+    """Judges a place over a log: how many cases fit it, the verdict at a threshold, and where the
+    first token is missing.
 
     Refusals, in order: 1, 7, 6, then of the first faulty line 5, 2, 3 or 4.
+
+    >>> log = b"0000005A0002030401\\n000000060003020401\\n0000000400020401\\n"
+    >>> judgement = judge(5, 50, log, Place.from_codes({3}, {4}))
+    >>> judgement.fitting, judgement.underfed, judgement.verdict is Verdict.FITTING
+    (96, 4, True)
+    >>> judgement.first_underfed  # the last line has a 4, but no 3
+    MissingToken(line=2, event=2)
     """
     text = _bytes(log)
     value, counts, verdict = c_uint64(), _Cases(), c_uint8()
+    line, event = c_int32(), c_int32()
     number = _library.placelist_judge(
         _setting(activities, _BYTE), _setting(threshold, _HALF), text, len(text), *_sets(place),
-        byref(value), counts, byref(verdict),
+        byref(value), counts, byref(verdict), byref(line), byref(event),
     )
     _accept(number, value)
-    return Judgement(*counts, Verdict(verdict.value))
+    return Judgement(*counts, Verdict(verdict.value), _missing_token(line, event))
 
 
 def summarize(activities: int, log: Log) -> List[Variant]:

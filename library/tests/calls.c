@@ -1,8 +1,9 @@
 /*
  * Every call of the header once, on worked cases, most of them of document 01: that the header
- * declares what the library has. Then large case counts, frames about as short and as long as they
- * can be, the case counts of version 1, null pointers for buffers of length 0, the version and the
- * words of the refusals. C99 and C++. Says which line failed; the exit status is 0 only if none did.
+ * declares what the library has. Then where the first token is missing, large case counts, frames
+ * about as short and as long as they can be, the case counts of version 1, null pointers for buffers
+ * of length 0, the version and the words of the refusals. C99 and C++. Says which line failed; the
+ * exit status is 0 only if none did.
  */
 #include <stdio.h>
 #include <string.h>
@@ -33,32 +34,39 @@ static void check_and_replay(void)
     EXPECT(value == 0 && counts[PLACELIST_SIZE_FRAMES] == 1 && counts[PLACELIST_SIZE_CASES] == 1);
 
     int16_t least = 99, last = 99;
-    EXPECT(placelist_replay(3, short_log, SHORT_LENGTH, 0, 4, &value, &least, &last)
+    int32_t missing = 99;
+    EXPECT(placelist_replay(3, short_log, SHORT_LENGTH, 0, 4, &value, &least, &last, &missing)
            == PLACELIST_INVALID_PLACE);
-    EXPECT(value == 0 && least == 99 && last == 99);
-    EXPECT(placelist_replay(3, short_log, SHORT_LENGTH, 4, 4, &value, &least, &last)
+    EXPECT(value == 0 && least == 99 && last == 99 && missing == 99);
+    EXPECT(placelist_replay(3, short_log, SHORT_LENGTH, 4, 4, &value, &least, &last, &missing)
            == PLACELIST_NOT_REFUSED);
-    EXPECT(value == 0 && least == -1 && last == 0);
+    EXPECT(value == 0 && least == -1 && last == 0 && missing == 1);
 }
 
-/* M7 */
+static const uint8_t four_lines[] = "0000001F0002030401\n0000001B0003020401\n"
+                                    "000000170002030501\n000000130003020501\n"; /* M7 */
+#define FOUR_LINES_LENGTH (sizeof four_lines - 1)
+
 static void judge(void)
 {
-    static const uint8_t log[] = "0000001F0002030401\n0000001B0003020401\n"
-                                 "000000170002030501\n000000130003020501\n";
     uint64_t value = 99, counts[PLACELIST_CASES_LENGTH] = { 99, 99, 99, 99 };
     uint8_t verdict = 99;
-    EXPECT(placelist_judge(6, 419, log, sizeof log - 1, 0x0001, 0x0010, &value, counts, &verdict)
+    int32_t line = 99, event = 99;
+    EXPECT(placelist_judge(5, 420, four_lines, FOUR_LINES_LENGTH, 0x0001, 0x0010, &value, counts,
+                           &verdict, &line, &event)
+           == PLACELIST_UNKNOWN_ACTIVITY);
+    EXPECT(value == 2 && verdict == 99 && line == 99 && event == 99);
+    EXPECT(placelist_judge(6, 419, four_lines, FOUR_LINES_LENGTH, 0x0001, 0x0010, &value, counts,
+                           &verdict, &line, &event)
            == PLACELIST_NOT_REFUSED);
     EXPECT(value == 0 && verdict == PLACELIST_OVERFED);
     EXPECT(counts[PLACELIST_CASES_FITTING] == 58 && counts[PLACELIST_CASES_UNDERFED] == 0);
     EXPECT(counts[PLACELIST_CASES_OVERFED] == 42 && counts[PLACELIST_CASES_BOTH] == 0);
-    EXPECT(placelist_judge(6, 420, log, sizeof log - 1, 0x0001, 0x0010, &value, counts, &verdict)
+    EXPECT(line == PLACELIST_NONE && event == PLACELIST_NONE);
+    EXPECT(placelist_judge(6, 420, four_lines, FOUR_LINES_LENGTH, 0x0001, 0x0010, &value, counts,
+                           &verdict, &line, &event)
            == PLACELIST_NOT_REFUSED);
     EXPECT(verdict == PLACELIST_FITTING);
-    EXPECT(placelist_judge(5, 420, log, sizeof log - 1, 0x0001, 0x0010, &value, counts, &verdict)
-           == PLACELIST_UNKNOWN_ACTIVITY);
-    EXPECT(value == 2);
 }
 
 /* That an entry has these words. */
@@ -140,6 +148,92 @@ static void report(void)
     EXPECT(memcmp(output, expected, sizeof expected - 1) == 0);
 }
 
+/* That the first trace of a log has these balances on a place, and a token missing at this event. */
+static void expect_replay(int line, const char *log, uint16_t inputs, uint16_t outputs, int least,
+                          int last, int missing)
+{
+    uint64_t value = 99;
+    int16_t balances[] = { 99, 99 };
+    int32_t event = 99;
+    expect(line, placelist_replay(6, (const uint8_t *)log, strlen(log), inputs, outputs, &value,
+                                  &balances[0], &balances[1], &event)
+                     == PLACELIST_NOT_REFUSED);
+    expect(line, value == 0 && balances[0] == least && balances[1] == last && event == missing);
+}
+
+/* M1 to M5, an event that is the first of its trace, and more tokens missing after the first */
+static void missing_in_a_trace(void)
+{
+    static const char straight[] = "00000001000203040501\n", repeated[] = "0000000100040202030301\n";
+    expect_replay(__LINE__, straight, 0x0001, 0x0004, 0, 0, PLACELIST_NONE);
+    expect_replay(__LINE__, straight, 0x0004, 0x0030, -1, -1, 4);
+    expect_replay(__LINE__, straight, 0x0030, 0x0002, 0, 1, PLACELIST_NONE);
+    expect_replay(__LINE__, repeated, 0x0004, 0x0030, -1, 1, 1);
+    expect_replay(__LINE__, repeated, 0x0001, 0x0004, -1, -1, 3);
+    expect_replay(__LINE__, straight, 0x0002, 0x0001, -1, 0, 0);
+    expect_replay(__LINE__, straight, 0x0002, 0x001C, -3, -2, 1);
+}
+
+/* That this is where M7's log first has a token of the place missing, at any threshold. */
+static void expect_missing(int line, uint16_t inputs, uint16_t outputs, int first_line, int event)
+{
+    static const uint16_t thresholds[] = { 0, 419, 420, PLACELIST_MOST_THRESHOLD };
+    for (size_t i = 0; i < sizeof thresholds / sizeof thresholds[0]; i++) {
+        uint64_t value = 99, counts[PLACELIST_CASES_LENGTH];
+        uint8_t verdict;
+        int32_t at_line = 99, at_event = 99;
+        expect(line, placelist_judge(6, thresholds[i], four_lines, FOUR_LINES_LENGTH, inputs, outputs,
+                                     &value, counts, &verdict, &at_line, &at_event)
+                         == PLACELIST_NOT_REFUSED);
+        expect(line, value == 0 && at_line == first_line && at_event == event);
+        int underfed = counts[PLACELIST_CASES_UNDERFED] + counts[PLACELIST_CASES_BOTH] != 0;
+        expect(line, underfed == (at_line != PLACELIST_NONE));
+    }
+}
+
+/* in no line, in the first, in a later one, underfed only and both */
+static void missing_in_a_log(void)
+{
+    expect_missing(__LINE__, 0x0001, 0x0002, PLACELIST_NONE, PLACELIST_NONE);
+    expect_missing(__LINE__, 0x0001, 0x0010, PLACELIST_NONE, PLACELIST_NONE);
+    expect_missing(__LINE__, 0x0002, 0x0001, 0, 0);
+    expect_missing(__LINE__, 0x0008, 0x0004, 0, 1);
+    expect_missing(__LINE__, 0x0004, 0x0008, 1, 1);
+    expect_missing(__LINE__, 0x0010, 0x0002, 2, 4);
+    expect_missing(__LINE__, 0x0006, 0x0028, 1, 1);
+}
+
+/* That replaying and judging are refused so, and leave their results. */
+static void expect_left(int line, uint8_t activities, const char *log, uint16_t inputs,
+                        uint8_t number)
+{
+    const uint8_t *text = (const uint8_t *)log;
+    uint64_t value = 99, counts[PLACELIST_CASES_LENGTH] = { 99, 99, 99, 99 };
+    int16_t least = 99, last = 99;
+    int32_t missing = 99, first_line = 99, event = 99;
+    uint8_t verdict = 99;
+    expect(line, placelist_replay(activities, text, strlen(log), inputs, 4, &value, &least, &last,
+                                  &missing)
+                     == number);
+    expect(line, placelist_judge(activities, 0, text, strlen(log), inputs, 4, &value, counts,
+                                 &verdict, &first_line, &event)
+                     == number);
+    expect(line, least == 99 && last == 99 && missing == 99);
+    expect(line, counts[0] == 99 && counts[1] == 99 && counts[2] == 99 && counts[3] == 99);
+    expect(line, verdict == 99 && first_line == 99 && event == 99);
+}
+
+/* wrong arguments, no bytes, and faults behind a line that underfeeds the place */
+static void missing_but_refused(void)
+{
+    expect_left(__LINE__, 17, "00000001000201\n", 4, PLACELIST_INVALID_SETTING);
+    expect_left(__LINE__, 3, "00000001000201\n", 8, PLACELIST_INVALID_PLACE);
+    expect_left(__LINE__, 3, "", 4, PLACELIST_EMPTY_LOG);
+    expect_left(__LINE__, 3, "00000001000201\n0000000100201\n", 4, PLACELIST_MALFORMED_FRAME);
+    expect_left(__LINE__, 3, "00000001000201\n00000001000301\n", 4, PLACELIST_UNKNOWN_ACTIVITY);
+    expect_left(__LINE__, 3, "00000001000201\n000000010002\n", 4, PLACELIST_MISPLACED_ENDPOINT);
+}
+
 /* That the two variants of a log have so many cases. */
 static void expect_variants(int line, const char *log, uint64_t more, uint64_t fewer)
 {
@@ -162,12 +256,15 @@ static void expect_cases(int line, const char *log, uint64_t first, uint64_t sec
     size_t length = strlen(log);
     uint64_t value = 99, size[PLACELIST_SIZE_LENGTH], counts[PLACELIST_CASES_LENGTH];
     uint8_t below, at;
+    int32_t missing_line, event;
     uint16_t lower = (uint16_t)(threshold - 1);
     expect(line, placelist_check(3, text, length, &value, size) == PLACELIST_NOT_REFUSED);
     expect(line, value == 0 && size[PLACELIST_SIZE_CASES] == first + second);
-    expect(line, placelist_judge(3, lower, text, length, 1, 4, &value, counts, &below)
+    expect(line, placelist_judge(3, lower, text, length, 1, 4, &value, counts, &below, &missing_line,
+                                 &event)
                      == PLACELIST_NOT_REFUSED);
-    expect(line, placelist_judge(3, threshold, text, length, 1, 4, &value, counts, &at)
+    expect(line, placelist_judge(3, threshold, text, length, 1, 4, &value, counts, &at, &missing_line,
+                                 &event)
                      == PLACELIST_NOT_REFUSED);
     expect(line, below == PLACELIST_OVERFED && at == PLACELIST_FITTING);
     expect(line, counts[PLACELIST_CASES_FITTING] == first && counts[PLACELIST_CASES_UNDERFED] == 0);
@@ -238,6 +335,29 @@ static void long_frames(void)
     EXPECT(counts[PLACELIST_SIZE_FRAMES] == 1 && counts[PLACELIST_SIZE_CASES] == UINT32_MAX);
 }
 
+/* a token that is missing at the last event of the last line, where both have the largest index */
+static void largest_indices(void)
+{
+    static const char fed[] = "00000001000301\n";
+    static uint8_t text[(PLACELIST_MOST_FRAMES - 1) * (sizeof fed - 1) + PLACELIST_MOST_FRAME_BYTES];
+    uint64_t value = 99, counts[PLACELIST_CASES_LENGTH];
+    int16_t least, last;
+    int32_t missing, line, event;
+    uint8_t verdict, *at = text;
+    for (int frame = 0; frame < PLACELIST_MOST_FRAMES - 1; frame++) {
+        memcpy(at, fed, sizeof fed - 1);
+        at += sizeof fed - 1;
+    }
+    size_t longest = fill_frame(at, PLACELIST_MOST_FRAME_ACTIVITIES);
+    EXPECT(placelist_replay(4, at, longest, 8, 2, &value, &least, &last, &missing)
+           == PLACELIST_NOT_REFUSED);
+    EXPECT(value == 0 && least == -1 && last == -1 && missing == 253);
+    EXPECT(placelist_judge(4, 0, text, sizeof text, 8, 2, &value, counts, &verdict, &line, &event)
+           == PLACELIST_NOT_REFUSED);
+    EXPECT(value == 0 && counts[PLACELIST_CASES_UNDERFED] == UINT32_MAX);
+    EXPECT(line == 4095 && event == 253);
+}
+
 /*
  * Case counts of four digits, as version 1 read them: a frame of two or three activities is too
  * short, and a longer one does not begin with 00.
@@ -255,10 +375,13 @@ static void null_logs(void)
 {
     uint64_t value = 99, count, counts[PLACELIST_CASES_LENGTH], run[PLACELIST_RUN_LENGTH];
     int16_t least, last;
+    int32_t missing, line, event;
     uint8_t verdict;
     EXPECT(placelist_check(3, NULL, 0, &value, counts) == PLACELIST_EMPTY_LOG);
-    EXPECT(placelist_replay(3, NULL, 0, 1, 2, &value, &least, &last) == PLACELIST_EMPTY_LOG);
-    EXPECT(placelist_judge(3, 0, NULL, 0, 1, 2, &value, counts, &verdict) == PLACELIST_EMPTY_LOG);
+    EXPECT(placelist_replay(3, NULL, 0, 1, 2, &value, &least, &last, &missing)
+           == PLACELIST_EMPTY_LOG);
+    EXPECT(placelist_judge(3, 0, NULL, 0, 1, 2, &value, counts, &verdict, &line, &event)
+           == PLACELIST_EMPTY_LOG);
     EXPECT(placelist_summarize(3, NULL, 0, NULL, 0, &value, &count) == PLACELIST_EMPTY_LOG);
     EXPECT(placelist_search(3, 2, 2, 0, NULL, 0, 9, NULL, 0, NULL, 0, &value, run)
            == PLACELIST_EMPTY_LOG);
@@ -309,9 +432,13 @@ int main(void)
     summarize();
     search_reduce_and_write();
     report();
+    missing_in_a_trace();
+    missing_in_a_log();
+    missing_but_refused();
     large_case_counts();
     short_frames();
     long_frames();
+    largest_indices();
     four_digit_case_counts();
     null_logs();
     null_lists();

@@ -28,6 +28,7 @@ static uint64_t entries[PLACELIST_VARIANT_LENGTH * PLACELIST_MOST_FRAMES];
 static uint64_t variants; /* of the log */
 static uint32_t words[PLACELIST_MOST_ACTIVITIES + 1], found[PLACELIST_PROGRAM_FOUND];
 static int16_t least, last;
+static int32_t missing, line, event;
 static uint8_t verdict, number;
 
 static void call_nothing(void) {}
@@ -42,14 +43,29 @@ static void call_check(void)
     number = placelist_check(16, text, sizeof text, &value, counts);
 }
 
+static uint8_t replay(uint16_t inputs, uint16_t outputs, int32_t expected)
+{
+    uint8_t answer = placelist_replay(16, text, sizeof text, inputs, outputs, &value, &least, &last,
+                                      &missing);
+    return missing == expected ? answer : 255;
+}
+
+static uint8_t judge(uint16_t inputs, uint16_t outputs, int32_t expected)
+{
+    uint8_t answer = placelist_judge(16, 500, text, sizeof text, inputs, outputs, &value, counts,
+                                     &verdict, &line, &event);
+    return line == expected ? answer : 255;
+}
+
+/* on a place that every trace underfeeds, and on one that none does */
 static void call_replay(void)
 {
-    number = placelist_replay(16, text, sizeof text, 1, 2, &value, &least, &last);
+    number = replay(2, 1, 0) | replay(1, 2, PLACELIST_NONE);
 }
 
 static void call_judge(void)
 {
-    number = placelist_judge(16, 500, text, sizeof text, 1, 2, &value, counts, &verdict);
+    number = judge(2, 1, 0) | judge(1, 2, PLACELIST_NONE);
 }
 
 static void call_summarize(void)

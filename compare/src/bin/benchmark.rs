@@ -15,6 +15,9 @@ use std::hint::black_box;
 use std::ops::Range;
 use std::time::Duration;
 
+/// The activities and frames of growing logs.
+const SIZES: [(u8, usize); 4] = [(6, 10), (8, 100), (10, 1000), (14, 4000)];
+
 /// A log with its sizes.
 struct Sample {
     activities: u8,
@@ -24,6 +27,10 @@ struct Sample {
 }
 
 fn sample(activities: u8, frames: usize) -> Sample {
+    sample_of(activities, &sample_log(activities, frames))
+}
+
+fn sample_log(activities: u8, frames: usize) -> Vec<Frame> {
     let shape = LogShape {
         activities,
         frames,
@@ -31,7 +38,7 @@ fn sample(activities: u8, frames: usize) -> Sample {
         repeats: 0,
         most_cases: 0xFFFF,
     };
-    sample_of(activities, &process_log(&mut Random::new(17), shape))
+    process_log(&mut Random::new(17), shape)
 }
 
 fn sample_of(activities: u8, log: &[Frame]) -> Sample {
@@ -65,24 +72,78 @@ fn checking(effort: Effort, samples: &[Sample]) {
 
 fn judging(effort: Effort, samples: &[Sample]) {
     let mut table = Table::new("Judging a place over a log", Speed::Millions("events"));
+    let place = Place {
+        inputs: 0b001001,
+        outputs: 0b110010,
+    };
     for sample in samples {
-        let (activities, text) = (sample.activities, &sample.text[..]);
-        let (inputs, outputs) = (0b001001, 0b110010);
-        let times = measure(
-            effort,
-            || {
-                let place = placelist::Place { inputs, outputs };
-                placelist::judge(activities, 50, black_box(text), place)
-            },
-            || {
-                let place = Place { inputs, outputs };
-                model::judge(activities, 50, black_box(text), place)
-            },
-        );
-        let input = format!("{}, {} events", describe(sample), sample.events);
-        table.row(&input, sample.events, times);
+        judge_row(&mut table, effort, sample, place);
     }
     table.end();
+}
+
+/// Growing logs of which no line underfeeds the place, or the last one alone.
+fn judging_the_last_line(effort: Effort) {
+    for (title, underfed) in [
+        ("Judging a place that no line underfeeds", false),
+        ("Judging a place that the last line alone underfeeds", true),
+    ] {
+        let mut table = Table::new(title, Speed::Millions("events"));
+        for (activities, frames) in SIZES {
+            let (sample, place) = token_taken(activities, frames, underfed);
+            judge_row(&mut table, effort, &sample, place);
+        }
+        table.end();
+    }
+}
+
+/// A place from the start to the end, whose token another activity takes too. Of this log only the
+/// last line has that activity, and lacks a token at its end, or no line has it.
+fn token_taken(activities: u8, frames: usize, by_last: bool) -> (Sample, Place) {
+    let mut log = sample_log(activities, frames);
+    let last = &mut log[frames - 1].trace;
+    if by_last {
+        last.insert(1, activities);
+    }
+    let last_event = last.len() - 1;
+    let sample = sample_of(activities + 1, &log);
+    let place = Place {
+        inputs: 0b01,
+        outputs: 0b10 | 1 << activities,
+    };
+    let missing = by_last.then_some((frames - 1, last_event));
+    assert_first_underfed(&sample, place, missing);
+    (sample, place)
+}
+
+/// Both sides have to answer this line and event.
+fn assert_first_underfed(sample: &Sample, place: Place, expected: Option<(usize, usize)>) {
+    let (activities, text) = (sample.activities, &sample.text[..]);
+    let its_answer = placelist::judge(activities, 50, text, library_place(place));
+    let its_missing = its_answer.expect("a log").first_underfed;
+    assert_eq!(its_missing.map(|it| (it.line, it.event)), expected);
+    let answer = model::judge(activities, 50, text, place);
+    let missing = answer.expect("a log").first_underfed;
+    assert_eq!(missing.map(|it| (it.line, it.event)), expected);
+}
+
+fn library_place(place: Place) -> placelist::Place {
+    placelist::Place {
+        inputs: place.inputs,
+        outputs: place.outputs,
+    }
+}
+
+fn judge_row(table: &mut Table, effort: Effort, sample: &Sample, place: Place) {
+    let (activities, text) = (sample.activities, &sample.text[..]);
+    let its_place = library_place(place);
+    let times = measure(
+        effort,
+        || placelist::judge(activities, 50, black_box(text), its_place),
+        || model::judge(activities, 50, black_box(text), place),
+    );
+    let input = format!("{}, {} events", describe(sample), sample.events);
+    table.row(&input, sample.events, times);
 }
 
 /// Summaries of growing logs: of one variant, of few, and of one for each frame.
@@ -340,13 +401,13 @@ fn main() {
         least_samples: 3,
         most_samples: if quick { 5 } else { 25 },
     };
-    let logs = [(6, 10), (8, 100), (10, 1000), (14, 4000)];
-    let samples = logs.map(|(activities, frames)| sample(activities, frames));
+    let samples = SIZES.map(|(activities, frames)| sample(activities, frames));
     let lengths = [64, 256, 1024, 4096];
     let lengths = if quick { &lengths[..3] } else { &lengths };
     introduce(effort);
     checking(effort, &samples);
     judging(effort, &samples);
+    judging_the_last_line(effort);
     summarizing(effort);
     searching(effort, quick);
     reducing(effort, lengths);

@@ -2,8 +2,12 @@
 
 use super::notation;
 use crate::model::{
-    Balances, Judgement, Listing, LogSize, Refusal, Run, Variant, Verdict, VARIANT_LENGTH,
+    Balances, Judgement, Listing, LogSize, MissingToken, Refusal, Run, Variant, Verdict,
+    VARIANT_LENGTH,
 };
+
+/// Where the first token is missing if none is.
+const NOWHERE: &str = "nowhere";
 
 /// An answer that can be written on lines of its own.
 pub trait Lines {
@@ -18,7 +22,14 @@ impl Lines for LogSize {
 
 impl Lines for Balances {
     fn lines(&self) -> String {
-        format!("  least {} last {}\n", self.least, self.last)
+        let missing = match self.first_missing {
+            Some(event) => format!("at event {event}"),
+            None => NOWHERE.to_string(),
+        };
+        format!(
+            "  least {} last {} first missing {missing}\n",
+            self.least, self.last
+        )
     }
 }
 
@@ -30,10 +41,15 @@ impl Lines for Judgement {
             Verdict::Overfed => "overfed",
             Verdict::Both => "both",
         };
-        format!(
-            "  fitting {} underfed {} overfed {} both {} verdict {verdict}\n",
+        let missing = match self.first_underfed {
+            Some(MissingToken { line, event }) => format!("at line {line} event {event}"),
+            None => NOWHERE.to_string(),
+        };
+        let counts = format!(
+            "fitting {} underfed {} overfed {} both {}",
             self.fitting, self.underfed, self.overfed, self.both
-        )
+        );
+        format!("  {counts} verdict {verdict} first missing {missing}\n")
     }
 }
 

@@ -24,6 +24,19 @@ pub fn of_library<T: Fields>(answer: Result<T, placelist::Refusal>) -> Answer {
         .map_err(|refusal| (refusal.number(), refusal.value))
 }
 
+/// An index, or -1.
+fn index_or_none(index: Option<usize>) -> i64 {
+    index.map_or(-1, |index| index as i64)
+}
+
+/// The fields of a judgement, of either side.
+fn judged(counts: [u64; 4], verdict: i64, missing: Option<(usize, usize)>) -> Vec<i64> {
+    let mut fields = counts.map(|count| count as i64).to_vec();
+    let (line, event) = missing.unzip();
+    fields.extend([verdict, index_or_none(line), index_or_none(event)]);
+    fields
+}
+
 impl Fields for usize {
     fn fields(self) -> Vec<i64> {
         vec![self as i64]
@@ -44,13 +57,15 @@ impl Fields for placelist::LogSize {
 
 impl Fields for model::Balances {
     fn fields(self) -> Vec<i64> {
-        vec![self.least.into(), self.last.into()]
+        let missing = index_or_none(self.first_missing);
+        vec![self.least.into(), self.last.into(), missing]
     }
 }
 
 impl Fields for placelist::Balances {
     fn fields(self) -> Vec<i64> {
-        vec![self.least.into(), self.last.into()]
+        let missing = index_or_none(self.first_missing);
+        vec![self.least.into(), self.last.into(), missing]
     }
 }
 
@@ -62,27 +77,17 @@ impl Fields for model::Judgement {
             model::Verdict::Overfed => 2,
             model::Verdict::Both => 3,
         };
-        let counts = [
-            self.fitting,
-            self.underfed,
-            self.overfed,
-            self.both,
-            verdict,
-        ];
-        counts.map(|count| count as i64).to_vec()
+        let counts = [self.fitting, self.underfed, self.overfed, self.both];
+        let missing = self.first_underfed.map(|token| (token.line, token.event));
+        judged(counts, verdict, missing)
     }
 }
 
 impl Fields for placelist::Judgement {
     fn fields(self) -> Vec<i64> {
-        let counts = [
-            self.fitting,
-            self.underfed,
-            self.overfed,
-            self.both,
-            self.verdict as u64,
-        ];
-        counts.map(|count| count as i64).to_vec()
+        let counts = [self.fitting, self.underfed, self.overfed, self.both];
+        let missing = self.first_underfed.map(|token| (token.line, token.event));
+        judged(counts, self.verdict as i64, missing)
     }
 }
 

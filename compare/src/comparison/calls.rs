@@ -2,9 +2,9 @@
 
 use super::answers::{of_library, of_model, Answer};
 use super::buffers::{byte_pattern, entry_pattern, rejected_pattern, word_pattern, Guarded};
-use super::{process, Tally};
+use super::{outcomes, process, Tally};
 use crate::generate::{padded_input, padded_log};
-use crate::model::{self, Place, Reader, Settings, COUNT_DIGITS};
+use crate::model::{self, Log, Place, Reader, Settings, COUNT_DIGITS};
 use std::path::Path;
 
 /// Calls both sides and counts.
@@ -72,13 +72,20 @@ impl Comparison {
         Guarded::copy(&padded_log(self.missing_digits(), text), b'0')
     }
 
-    /// Counts what a call was expected to answer.
-    fn reach(&mut self, call: &'static str, expected: &Answer, answered: &str) {
-        let outcome = match expected {
-            Ok(_) => answered.to_string(),
-            Err((number, _)) => format!("refusal {number}"),
-        };
-        self.tally.reach(call, outcome);
+    /// The log of a text that a call accepted.
+    fn accepted_log(&self, activities: u8, text: &[u8]) -> Log {
+        Log::parse(self.reader.count_digits, activities, text).expect("an accepted log")
+    }
+
+    /// Counts what a call was expected to answer: one outcome or more.
+    fn reach(&mut self, call: &'static str, expected: &Answer, answered: &[&str]) {
+        if let Err((number, _)) = expected {
+            self.tally.reach(call, format!("refusal {number}"));
+            return;
+        }
+        for outcome in answered {
+            self.tally.reach(call, outcome.to_string());
+        }
     }
 
     pub fn check(&mut self, kind: &'static str, activities: u8, text: &[u8]) {
@@ -87,7 +94,7 @@ impl Comparison {
         let before = given.clone();
         let actual = of_library(placelist::check(activities, given.inside()));
         let same = actual == expected && given == before;
-        self.reach("check", &expected, "answered");
+        self.reach("check", &expected, &["answered"]);
         self.tally.record(kind, same, || {
             let text = show(text);
             format!("check(A {activities}, {text}) is {actual:?}, expected {expected:?}")
@@ -95,13 +102,18 @@ impl Comparison {
     }
 
     pub fn replay(&mut self, kind: &'static str, activities: u8, text: &[u8], place: Place) {
-        let expected = of_model(self.reader.replay(activities, text, place));
+        let answer = self.reader.replay(activities, text, place);
+        let reached = answer.map_or(vec![], |balances| {
+            let log = self.accepted_log(activities, text);
+            outcomes::replayed(&log.frames[0].trace, place, balances)
+        });
+        let expected = of_model(answer);
         let mut given = self.given_log(text);
         let before = given.clone();
         let answer = placelist::replay(activities, given.inside(), library_place(place));
         let actual = of_library(answer);
         let same = actual == expected && given == before;
-        self.reach("replay", &expected, "answered");
+        self.reach("replay", &expected, &reached);
         self.tally.record(kind, same, || {
             let (text, word) = (show(text), place.word());
             let call = format!("replay(A {activities}, {text}, place {word:08X})");
@@ -117,14 +129,19 @@ impl Comparison {
         text: &[u8],
         place: Place,
     ) {
-        let expected = of_model(self.reader.judge(activities, threshold, text, place));
+        let answer = self.reader.judge(activities, threshold, text, place);
+        let reached = answer.map_or(vec![], |judgement| {
+            let log = self.accepted_log(activities, text);
+            outcomes::judged(&log, place, judgement)
+        });
+        let expected = of_model(answer);
         let mut given = self.given_log(text);
         let before = given.clone();
         let its_text = given.inside();
         let answer = placelist::judge(activities, threshold, its_text, library_place(place));
         let actual = of_library(answer);
         let same = actual == expected && given == before;
-        self.reach("judge", &expected, "answered");
+        self.reach("judge", &expected, &reached);
         self.tally.record(kind, same, || {
             let (text, word) = (show(text), place.word());
             let call = format!("judge(A {activities}, T {threshold}, {text}, place {word:08X})");
@@ -144,7 +161,7 @@ impl Comparison {
         let answer = placelist::summarize(activities, given.inside(), its_entries.inside());
         let actual = of_library(answer);
         let same = actual == expected && its_entries == entries && given == before;
-        self.reach("summarize", &expected, "answered");
+        self.reach("summarize", &expected, &["answered"]);
         self.tally.record(kind, same, || {
             let call = format!("summarize(A {activities}, {}, room {room})", show(text));
             let entries = its_entries.difference(&entries);
@@ -180,7 +197,7 @@ impl Comparison {
         let same_buffers = its_rejected == rejected && its_found == found && given == before;
         let same = actual == expected && same_buffers;
         let end = expected.as_ref().map_or(0, |fields| fields[0]);
-        self.reach("search", &expected, &format!("end {end}"));
+        self.reach("search", &expected, &[&format!("end {end}")]);
         self.tally.record(kind, same, || {
             let call = format!("search({settings:?}, {}, {sizes:?})", show(text));
             let (rejected, found) = (
@@ -203,7 +220,7 @@ impl Comparison {
         let before = given.clone();
         let actual = of_library(placelist::reduce(given.inside(), its_kept.inside()));
         let same = actual == expected && its_kept == kept && given == before;
-        self.reach("reduce", &expected, "answered");
+        self.reach("reduce", &expected, &["answered"]);
         self.tally.record(kind, same, || {
             let call = format!("reduce({words:08X?}, room {room})");
             let kept = its_kept.difference(&kept);
@@ -219,7 +236,7 @@ impl Comparison {
         let before = given.clone();
         let actual = of_library(placelist::write(given.inside(), its_text.inside()));
         let same = actual == expected && its_text == text && given == before;
-        self.reach("write", &expected, "answered");
+        self.reach("write", &expected, &["answered"]);
         self.tally.record(kind, same, || {
             let call = format!("write({words:08X?}, room {room})");
             let text = its_text.difference(&text);
@@ -237,7 +254,7 @@ impl Comparison {
         let same = actual == expected && its_output == output && given == before;
         let written = expected.as_ref().map_or(0, |fields| fields[0]);
         let ending = ending(&output.inside()[..written as usize]);
-        self.reach("report", &expected, &ending);
+        self.reach("report", &expected, &[&ending]);
         self.tally.record(kind, same, || {
             let call = format!("report({}, room {room})", show(input));
             let output = its_output.difference(&output);

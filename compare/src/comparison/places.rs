@@ -3,10 +3,11 @@
 use super::logs::{LIMIT_COUNTS, WORKED};
 use super::Comparison;
 use crate::generate::{
-    any_place, each_changed_byte, faulty_logs, halved_log, long_log, random_log, random_place,
-    random_threshold, Random,
+    any_place, each_changed_byte, faulty_logs, halved_log, log_underfed_from, long_log,
+    place_from_2_to_3, random_log, random_place, random_threshold, short_logs, text_of, Random,
+    UNDERFED_BOUND,
 };
-use crate::model::{self, Place, MOST_FRAMES};
+use crate::model::{self, Place, COUNT_DIGITS, MOST_EVENTS, MOST_FRAMES};
 
 /// Texts of every kind of fault, for a bound of 3.
 pub const TEXTS: [&[u8]; 10] = [
@@ -28,8 +29,11 @@ pub fn compare(comparison: &mut Comparison, random: &mut Random, rounds: usize) 
     refusals(comparison);
     changed_bytes(comparison);
     limits(comparison);
+    every_short_log(comparison);
+    first_missing_events(comparison);
     for _ in 0..rounds {
         random_places(comparison, random);
+        first_underfed_lines(comparison, random);
         thresholds(comparison, random);
         longest_frames(comparison, random);
     }
@@ -96,6 +100,60 @@ fn limits(comparison: &mut Comparison) {
     for text in faulty_logs() {
         comparison.replay("replay: logs at the limits", 3, &text, place);
         comparison.judge("judge: logs at the limits", 3, 500, &text, place);
+    }
+}
+
+/// Every place of four activities on every trace of one to four steps, and on every log of up to
+/// three of four lines.
+fn every_short_log(comparison: &mut Comparison) {
+    let line = |inner: &str| format!("0000000100{inner}01\n");
+    let steps = short_logs(&["02", "03"].map(String::from), 4);
+    let traces: Vec<String> = steps.iter().map(|steps| line(steps)).collect();
+    let logs = short_logs(&["", "02", "03", "0302"].map(line), 3);
+    for outputs in 1..1 << 4 {
+        for inputs in 1..1 << 4 {
+            let place = Place { inputs, outputs };
+            for trace in &traces {
+                comparison.replay("replay: every short trace", 4, trace.as_bytes(), place);
+            }
+            for log in &logs {
+                comparison.judge("judge: every short log", 4, 333, log.as_bytes(), place);
+            }
+        }
+    }
+}
+
+/// Lines at both ends of a log, in its middle and next to the last that a byte can number, as the
+/// first that underfeeds a place; also no line.
+fn first_underfed_lines(comparison: &mut Comparison, random: &mut Random) {
+    for frames in [1, 2, 3, 300, MOST_FRAMES - 1, MOST_FRAMES] {
+        let lines = [0, 1, 2, 127, 128, 255, 256, 2047, 2048, frames - 1, frames];
+        for line in lines.into_iter().filter(|&line| line <= frames) {
+            for threshold in [0, random_threshold(random), 1000] {
+                let place = place_from_2_to_3(random);
+                let log = log_underfed_from(random, place, frames, line);
+                let text = text_of(COUNT_DIGITS, &log);
+                let kind = "replay: first underfed lines";
+                comparison.replay(kind, UNDERFED_BOUND, &text, place);
+                let kind = "judge: first underfed lines";
+                comparison.judge(kind, UNDERFED_BOUND, threshold, &text, place);
+            }
+        }
+    }
+}
+
+/// Each event of a longest frame between its start and its end as the first at which a token is
+/// missing.
+fn first_missing_events(comparison: &mut Comparison) {
+    let place = Place {
+        inputs: 2,
+        outputs: 8,
+    };
+    for event in 1..MOST_EVENTS - 1 {
+        let steps = "02".repeat(event - 1) + &"03".repeat(MOST_EVENTS - 1 - event);
+        let text = format!("0000000100{steps}01\n").into_bytes();
+        comparison.replay("replay: every event", 4, &text, place);
+        comparison.judge("judge: every event", 4, 0, &text, place);
     }
 }
 
@@ -191,6 +249,7 @@ fn longest_frames(comparison: &mut Comparison, random: &mut Random) {
         (4, 4),
         (15, 15),
         (8, 5),
+        (8, 2),
     ] {
         let place = Place { inputs, outputs };
         comparison.replay("replay: longest frames", 4, all(2).as_bytes(), place);

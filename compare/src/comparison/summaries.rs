@@ -5,7 +5,7 @@ use super::places::TEXTS;
 use super::Comparison;
 use crate::generate::{
     different_bags, each_changed_byte, faulty_lines, faulty_logs, halved_log, log_of_bags,
-    long_log, random_bags, random_log, text_of, Bag, Counts, Random,
+    long_log, random_bags, random_log, short_logs, text_of, Bag, Counts, Random,
 };
 use crate::model::{self, COUNT_DIGITS, MOST_EVENTS, MOST_FRAMES, VARIANT_LENGTH};
 
@@ -27,7 +27,7 @@ pub fn compare(comparison: &mut Comparison, random: &mut Random, rounds: usize) 
     refusals(comparison);
     damaged_logs(comparison);
     limit_counts(comparison);
-    short_logs(comparison);
+    every_short_log(comparison);
     for _ in 0..rounds {
         random_logs(comparison, random);
         chosen_variants(comparison, random);
@@ -107,28 +107,14 @@ fn limit_counts(comparison: &mut Comparison) {
 }
 
 /// Every log of up to three of these lines.
-fn short_logs(comparison: &mut Comparison) {
+fn every_short_log(comparison: &mut Comparison) {
     let traces = [
         "0001", "000201", "000301", "00020201", "00020301", "00030201",
     ];
     let lines = [1, 2].map(|cases| traces.map(|trace| format!("{cases:08X}{trace}\n")));
-    let lines = lines.concat();
-    let mut logs = vec![String::new()];
-    for _ in 0..3 {
-        logs = longer(&logs, &lines);
-        for log in &logs {
-            around(comparison, "summarize: every short log", 4, log.as_bytes());
-        }
+    for log in short_logs(&lines.concat(), 3) {
+        around(comparison, "summarize: every short log", 4, log.as_bytes());
     }
-}
-
-/// Each log with each line behind it.
-fn longer(logs: &[String], lines: &[String]) -> Vec<String> {
-    let mut longer = Vec::new();
-    for log in logs {
-        longer.extend(lines.iter().map(|line| log.clone() + line));
-    }
-    longer
 }
 
 /// Random logs, also under any bound.

@@ -213,6 +213,18 @@ pub fn halved_log(frames: usize, cases: u64, last: u64) -> Vec<u8> {
     text_of(COUNT_DIGITS, &frames)
 }
 
+/// Every log of one to `most` of these lines.
+pub fn short_logs(lines: &[String], most: usize) -> Vec<String> {
+    let mut all = Vec::new();
+    let mut longest = vec![String::new()];
+    for _ in 0..most {
+        let longer = |log: &String| lines.iter().map(|line| log.clone() + line).collect();
+        longest = longest.iter().flat_map::<Vec<_>, _>(longer).collect();
+        all.extend(longest.iter().cloned());
+    }
+    all
+}
+
 /// A log of exactly so many bytes, at least those of two shortest lines, for a bound above 2.
 pub fn log_of_bytes(random: &mut Random, activities: u8, bytes: usize) -> Vec<u8> {
     let most_cases = random_most_cases(random);

@@ -13,7 +13,7 @@ mod search;
 mod settings;
 mod summary;
 
-pub use judging::{Balances, Judgement, Verdict};
+pub use judging::{Balances, Judgement, MissingToken, Verdict};
 pub use listing::{Listing, MOST_INPUT, MOST_OUTPUT, PLACE_BYTES};
 pub use log::{Frame, Log, LogSize, COUNT_DIGITS, MOST_EVENTS, MOST_FRAMES};
 pub use place::Place;

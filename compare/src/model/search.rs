@@ -1,7 +1,7 @@
 //! The search for the fitting candidates.
 
 use super::candidates::{ordered_sets, Entry};
-use super::judging::judge_log;
+use super::judging::log_verdict;
 use super::{Log, Place, Settings, Verdict};
 
 /// How a search ended, and what it counted.
@@ -131,7 +131,7 @@ impl Search<'_> {
         }
         self.visits += 1;
         self.replays += 1;
-        let mark = match judge_log(self.log, self.threshold, place).verdict {
+        let mark = match log_verdict(self.log, self.threshold, place) {
             Verdict::Fitting if self.found.push(place.word()) => return Ok(false),
             Verdict::Fitting => return Err(End::ListFull),
             Verdict::Underfed => UNDERFED,

@@ -7,6 +7,7 @@ use Rattle.event_log_spec.specs.declared.LogSize.{LogSize}
 use Rattle.replay_spec.specs.declared.Balances.{Balances}
 use Rattle.replay_spec.specs.declared.Judgement.{Judgement}
 use Rattle.replay_spec.specs.Judgement.{mark}
+use Rattle.replay_spec.specs.Missing.{missing_index, line_index, event_index}
 use Rattle.discovery_spec.specs.declared.Run.{Run}
 use Rattle.discovery_spec.specs.Search.{end_number}
 
@@ -26,6 +27,10 @@ least_after = result_after (λ (balances : Balances). balances.least)
 unfoldable pub last_after : Result Balances Refusal → ℤ → ℤ
 last_after = result_after (λ (balances : Balances). balances.last)
 
+-- the index of the first event at which a token is missing, or -1
+unfoldable pub missing_after : Result Balances Refusal → ℤ → ℤ
+missing_after = result_after (λ (balances : Balances). missing_index balances.first_missing)
+
 -- the four case counts
 unfoldable pub counts_after : Result Judgement Refusal → List ℕ → List ℕ
 counts_after =
@@ -37,6 +42,14 @@ counts_after =
 -- the verdict, by the number that marks a rejected word
 unfoldable pub verdict_after : Result Judgement Refusal → ℕ → ℕ
 verdict_after = result_after (λ (judgement : Judgement). mark judgement.verdict)
+
+-- the indices of the first line that underfeeds the place, and of the first event of it at which a
+-- token is missing, or -1
+unfoldable pub line_after : Result Judgement Refusal → ℤ → ℤ
+line_after = result_after (λ (judgement : Judgement). line_index judgement.first_underfed)
+
+unfoldable pub event_after : Result Judgement Refusal → ℤ → ℤ
+event_after = result_after (λ (judgement : Judgement). event_index judgement.first_underfed)
 
 -- how a run ended, the words found and rejected, the replays and the visits
 unfoldable pub run_after : Result Run Refusal → List ℕ → List ℕ

@@ -8,4 +8,4 @@ abbrev pub version_of : ℕ → ℕ → ℕ → ℕ
 version_of major minor patch = major * 65536 + minor * 256 + patch
 
 abbrev pub version : ℕ
-version = version_of 2 1 0
+version = version_of 3 0 0

@@ -15,7 +15,8 @@ ghost use Rattle.reduction_spec.specs.Reduction.{reduced, reduced_after};
 ghost use Rattle.writer.specs.Writing.{written, written_after};
 ghost use Rattle.reporter.specs.Reporting.{reported, output_after};
 ghost use Rattle.capi.specs.Settings.{settings_of};
-ghost use Rattle.capi.specs.Results.{sizes_after, least_after, last_after, counts_after, verdict_after};
+ghost use Rattle.capi.specs.Results.{sizes_after, least_after, last_after, missing_after};
+ghost use Rattle.capi.specs.Results.{counts_after, verdict_after, line_after, event_after};
 ghost use Rattle.capi.specs.Results.{run_after, count_after};
 ghost use Rattle.capi.specs.Version.{version};
 
@@ -30,9 +31,9 @@ use variants::summarize;
 use writer::write_places;
 
 // The version of the calls and formats, as `library/placelist.h` has it.
-const MAJOR: u32 = 2;
+const MAJOR: u32 = 3;
 
-const MINOR: u32 = 1;
+const MINOR: u32 = 0;
 
 const PATCH: u32 = 0;
 
@@ -95,8 +96,9 @@ pub extern "C" fn placelist_check(
     answer(checked, value)
 }
 
-// Replays the first trace of a log on a place: the least and the last balance.
-#[tactic(auto, unfolding(crate::specs::Results::least_after, crate::specs::Results::last_after))]
+// Replays the first trace of a log on a place: the least and the last balance, and the index of the
+// first event at which a token is missing, or -1.
+#[tactic(auto, unfolding(crate::specs::Results::least_after, crate::specs::Results::last_after, crate::specs::Results::missing_after))]
 #[unsafe(no_mangle)]
 pub extern "C" fn placelist_replay(
     activities: u8,
@@ -106,6 +108,7 @@ pub extern "C" fn placelist_replay(
     value: &mut u64,
     least: &mut i16,
     last: &mut i16,
+    missing: &mut i32,
 ) -> u8
     ensures number { result ≡ answer_number (replayed activities text.now (place inputs outputs)) }
     ensures value { value.new
@@ -114,17 +117,21 @@ pub extern "C" fn placelist_replay(
         ≡ least_after (replayed activities text.now (place inputs outputs)) least.old }
     ensures last { last.new
         ≡ last_after (replayed activities text.now (place inputs outputs)) last.old }
+    ensures missing { missing.new
+        ≡ missing_after (replayed activities text.now (place inputs outputs)) missing.old }
 {
     let replayed = replay_first_trace(activities, text, Place { inputs, outputs });
     if let Ok(balances) = &replayed {
         *least = balances.least;
         *last = balances.last;
+        *missing = balances.first_missing.index();
     }
     answer(replayed, value)
 }
 
-// Judges a place over a log at a threshold: the case counts and the verdict.
-#[tactic(auto, unfolding(crate::specs::Results::counts_after, crate::specs::Results::verdict_after))]
+// Judges a place over a log at a threshold: the case counts, the verdict, and the indices of the first
+// line that underfeeds the place and of its first event at which a token is missing, or -1.
+#[tactic(auto, unfolding(crate::specs::Results::counts_after, crate::specs::Results::verdict_after, crate::specs::Results::line_after, crate::specs::Results::event_after))]
 #[unsafe(no_mangle)]
 pub extern "C" fn placelist_judge(
     activities: u8,
@@ -135,6 +142,8 @@ pub extern "C" fn placelist_judge(
     value: &mut u64,
     counts: &mut [u64; 4],
     verdict: &mut u8,
+    line: &mut i32,
+    event: &mut i32,
 ) -> u8
     ensures number { result ≡ answer_number (judged activities threshold text.now (place inputs outputs)) }
     ensures value { value.new
@@ -143,12 +152,18 @@ pub extern "C" fn placelist_judge(
         ≡ counts_after (judged activities threshold text.now (place inputs outputs)) counts.old }
     ensures verdict { verdict.new
         ≡ verdict_after (judged activities threshold text.now (place inputs outputs)) verdict.old }
+    ensures line { line.new
+        ≡ line_after (judged activities threshold text.now (place inputs outputs)) line.old }
+    ensures event { event.new
+        ≡ event_after (judged activities threshold text.now (place inputs outputs)) event.old }
 {
     let judged = judge_place(activities, threshold, text, Place { inputs, outputs });
     if let Ok(judgement) = &judged {
         let cases = judgement.counts;
         *counts = [cases.fitting, cases.underfed, cases.overfed, cases.both];
         *verdict = judgement.verdict.mark();
+        *line = judgement.first_underfed.line_index();
+        *event = judgement.first_underfed.event_index();
     }
     answer(judged, value)
 }

@@ -9,7 +9,7 @@ use case_output::answer_line;
 use event_log::check_log;
 use event_log_spec::LogSize;
 use replay::{judge_place, replay_first_trace};
-use replay_spec::{Balances, Judgement, Verdict};
+use replay_spec::{Balances, FirstMissing, FirstUnderfed, Judgement, Verdict};
 use std::io;
 use std::io::Write;
 
@@ -24,7 +24,12 @@ pub fn check<W: Write>(out: &mut W, line: &[u8], text: &[u8]) -> Option<io::Resu
 }
 
 fn balances_line<W: Write>(out: &mut W, balances: Balances) -> io::Result<()> {
-    writeln!(out, "  least {} last {}", balances.least, balances.last)
+    let (least, last) = (balances.least, balances.last);
+    write!(out, "  least {least} last {last} first missing ")?;
+    match balances.first_missing {
+        FirstMissing::NoEvent => writeln!(out, "nowhere"),
+        FirstMissing::AtEvent { event } => writeln!(out, "at event {event}"),
+    }
 }
 
 // replay A place text
@@ -58,9 +63,13 @@ fn verdict_name(verdict: Verdict) -> &'static str
 fn judgement_line<W: Write>(out: &mut W, judgement: Judgement) -> io::Result<()> {
     let counts = judgement.counts;
     let verdict = verdict_name(judgement.verdict);
-    writeln!(
+    write!(
         out,
-        "  fitting {} underfed {} overfed {} both {} verdict {verdict}",
+        "  fitting {} underfed {} overfed {} both {} verdict {verdict} first missing ",
         counts.fitting, counts.underfed, counts.overfed, counts.both
-    )
+    )?;
+    match judgement.first_underfed {
+        FirstUnderfed::NoLine => writeln!(out, "nowhere"),
+        FirstUnderfed::AtLine { line, event } => writeln!(out, "at line {line} event {event}"),
+    }
 }

@@ -1,6 +1,7 @@
 -- The definitions of balances and judgements, tried on the source's own examples: the two traces
 -- discussed after Definition 5 with the five places of its Figure 1, the log of that figure, and
--- traces and places of Figure 3, where activities stand in both sets of a place.
+-- traces and places of Figure 3, where activities stand in both sets of a place. Those of missing
+-- tokens are tried where the first event or line and another one differ.
 -- Assumes nothing.
 use Rattle.std.specs.Prelude.{Ok, Err}
 use Prim.Native.Nat.{ℕ}
@@ -18,11 +19,16 @@ use Rattle.event_log_spec.specs.Lines.{frames_of}
 use Rattle.event_log_spec.proofs.Examples.{figure1_log}
 use Rattle.replay_spec.specs.declared.CaseCounts.{CaseCounts}
 use Rattle.replay_spec.specs.declared.Balances.{Balances}
+use Rattle.replay_spec.specs.declared.FirstMissing.{FirstMissing}
+use Rattle.replay_spec.specs.declared.FirstMissing.TheVariants.{NoEvent, AtEvent}
+use Rattle.replay_spec.specs.declared.FirstUnderfed.{FirstUnderfed}
+use Rattle.replay_spec.specs.declared.FirstUnderfed.TheVariants.{NoLine, AtLine}
 use Rattle.replay_spec.specs.declared.Judgement.{Judgement}
 use Rattle.replay_spec.specs.declared.Verdict.{Verdict}
 use Rattle.replay_spec.specs.declared.Verdict.TheVariants.{Fitting, Underfed, Overfed, Both}
 use Rattle.replay_spec.specs.Balance.{balance_at, least_balance, last_balance, underfeeds, overfeeds}
 use Rattle.replay_spec.specs.Judgement.{case_counts, exceeds, verdict_where, verdict_of, verdict}
+use Rattle.replay_spec.specs.Missing.{first_missing, first_underfed, missing_index, line_index, event_index}
 use Rattle.replay_spec.specs.Answers.{replayed, judged}
 use Rattle.replay_spec.proofs.Opened.{opened}
 
@@ -48,6 +54,28 @@ pub record TraceExamples : Type 0 where
   -- an activity in both sets takes a token that is there already, and cannot take the one it gives
   pub fed_before : of_trace (0 ∷ 2 ∷ 3 ∷ 1 ∷ []) (place 0x0005 0x000C) ≡ Fitting
   pub not_fed_by_itself : of_trace (0 ∷ 2 ∷ 1 ∷ []) (place 0x0004 0x0004) ≡ Underfed
+
+-- in the first of these traces a token is missing from event 1 on, the most of them at events 2 and 3
+pub record MissingExamples : Type 0 where
+  pub first_of_four : first_missing (place 0x0004 0x0030) (0 ∷ 4 ∷ 5 ∷ 2 ∷ 1 ∷ []) ≡ AtEvent 1
+  pub at_first_event : first_missing (place 0x0004 0x0001) (0 ∷ 2 ∷ 1 ∷ []) ≡ AtEvent 0
+  pub at_last_event : first_missing (place 0x0004 0x0002) (0 ∷ 3 ∷ 1 ∷ []) ≡ AtEvent 2
+  pub not_fed_by_itself : first_missing (place 0x0004 0x0004) (0 ∷ 2 ∷ 1 ∷ []) ≡ AtEvent 1
+  pub only_overfed : first_missing (place 0x0001 0x0004) (0 ∷ 1 ∷ []) ≡ NoEvent
+  pub event_shown : missing_index (AtEvent 253) ≡ pos 253
+  pub none_shown : missing_index NoEvent ≡ negsuc 0
+
+-- line 0 overfeeds the place, lines 1 and 2 underfeed it, the latter with more cases
+abbrev underfed_log : List ℕ
+underfed_log = bytes "00000007000201\n000000010004030201\n00000005000301\n"
+
+pub record UnderfedExamples : Type 0 where
+  pub first_line : first_underfed (place 0x0004 0x0008) (frames_of underfed_log) ≡ AtLine 1 2
+  pub no_line : first_underfed (place 0x0001 0x0002) (frames_of underfed_log) ≡ NoLine
+  pub line_shown : line_index (AtLine 4095 253) ≡ pos 4095
+  pub event_shown : event_index (AtLine 4095 253) ≡ pos 253
+  pub no_line_shown : line_index NoLine ≡ negsuc 0
+  pub no_event_shown : event_index NoLine ≡ negsuc 0
 
 -- frames of Figure 3's log
 abbrev figure3_log : List ℕ
@@ -81,11 +109,11 @@ pub record ThresholdExamples : Type 0 where
   pub each_by_itself : verdict_of 500 10 (counts 0 2 2 6) ≡ Both
   pub neither : verdict_of 500 10 (counts 0 5 5 0) ≡ Fitting
 
-abbrev balances : ℤ → ℤ → Balances
-balances least last = record { least = least; last = last }
+abbrev balances : ℤ → ℤ → FirstMissing → Balances
+balances least last missing = record { least = least; last = last; first_missing = missing }
 
-abbrev judgement : CaseCounts → Verdict → Judgement
-judgement counts verdict = record { counts = counts; verdict = verdict }
+abbrev judgement : CaseCounts → Verdict → FirstUnderfed → Judgement
+judgement counts verdict line = record { counts = counts; verdict = verdict; first_underfed = line }
 
 pub record AnswerExamples : Type 0 where
   pub setting_first : replayed 17 [] (place 0 0) ≡ Err InvalidSetting
@@ -93,11 +121,11 @@ pub record AnswerExamples : Type 0 where
   pub empty_log : replayed 2 [] (place 0x0001 0x0002) ≡ Err EmptyLog
   -- the whole log is checked, though only line 0 is replayed
   pub whole_log : replayed 2 (bytes "000000010001\n00000000") (place 0x0001 0x0002) ≡ Err (MalformedFrame 1)
-  pub first_line : replayed 3 (bytes "000000010001\n00000001000201\n") (place 0x0001 0x0004) ≡ Ok (balances (pos 0) (pos 1))
+  pub first_line : replayed 3 (bytes "000000010001\n00000001000201\n") (place 0x0001 0x0004) ≡ Ok (balances (pos 0) (pos 1) NoEvent)
   pub threshold : judged 2 1001 (bytes "000000010001\n") (place 0x0001 0x0002) ≡ Err InvalidSetting
   pub judged_no_place : judged 2 0 [] (place 0x0001 0x0004) ≡ Err (InvalidPlace 0)
-  pub judged_place : judged 5 175 figure3_log (place 0x0001 0x0004) ≡ Ok (judgement (counts 31 17 49 0) Both)
-  pub judged_higher : judged 5 176 figure3_log (place 0x0001 0x0004) ≡ Ok (judgement (counts 31 17 49 0) Overfed)
+  pub judged_place : judged 5 175 figure3_log (place 0x0001 0x0004) ≡ Ok (judgement (counts 31 17 49 0) Both (AtLine 2 2))
+  pub judged_higher : judged 5 176 figure3_log (place 0x0001 0x0004) ≡ Ok (judgement (counts 31 17 49 0) Overfed (AtLine 2 2))
 
 pub trace_examples : TraceExamples
 unfolding opened
@@ -111,6 +139,31 @@ trace_examples =
       last = refl;
       fed_before = refl;
       not_fed_by_itself = refl;
+    }
+
+pub missing_examples : MissingExamples
+unfolding opened
+missing_examples =
+    record {
+      first_of_four = refl;
+      at_first_event = refl;
+      at_last_event = refl;
+      not_fed_by_itself = refl;
+      only_overfed = refl;
+      event_shown = refl;
+      none_shown = refl;
+    }
+
+pub underfed_examples : UnderfedExamples
+unfolding opened
+underfed_examples =
+    record {
+      first_line = refl;
+      no_line = refl;
+      line_shown = refl;
+      event_shown = refl;
+      no_line_shown = refl;
+      no_event_shown = refl;
     }
 
 pub log_examples : LogExamples

@@ -1,3 +1,4 @@
 pub mod Balance
 pub mod Judgement
+pub mod Missing
 pub mod Answers

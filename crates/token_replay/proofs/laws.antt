@@ -1,3 +1,5 @@
 pub mod ByDigit
 pub mod EventBits
 pub mod EventByEvent
+pub mod UntilMissing
+pub mod DigitPairs

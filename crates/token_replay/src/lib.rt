@@ -12,6 +12,8 @@ ghost use Rattle.token_replay.specs.Tokens.{by_digit, digit_sets, after_digit, a
 
 use places::Place;
 
+pub mod missing; // missing.rt: the first event at which a token is missing
+
 // A set of codes as a set of digits, each by the last five bits of its byte: of 0 to 9 these are 16
 // to 25, and of A to F 1 to 6.
 fn by_digit(set: u16) -> u32

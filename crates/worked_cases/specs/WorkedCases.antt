@@ -10,6 +10,9 @@ use Rattle.places.specs.Places.{place, word}
 use Rattle.event_log_spec.specs.declared.LogSize.{LogSize}
 use Rattle.event_log_spec.specs.Checking.{log_size, checked}
 use Rattle.replay_spec.specs.declared.Balances.{Balances}
+use Rattle.replay_spec.specs.declared.FirstMissing.{FirstMissing}
+use Rattle.replay_spec.specs.declared.FirstMissing.TheVariants.{NoEvent, AtEvent}
+use Rattle.replay_spec.specs.declared.FirstUnderfed.TheVariants.{NoLine}
 use Rattle.replay_spec.specs.declared.Verdict.TheVariants.{Fitting, Overfed}
 use Rattle.replay_spec.specs.declared.CaseCounts.{CaseCounts}
 use Rattle.replay_spec.specs.Judgement.{overfed_cases}
@@ -52,8 +55,8 @@ variant_counts = record { fitting = 58; underfed = 0; overfed = 42; both = 0 }
 pub record M7 : Type 0 where
   pub cases : checked 6 variants ≡ Ok (log_size 4 100)
   pub overfed : overfed_cases variant_counts ≡ 42
-  pub at_419 : judged 6 419 variants (place 0x0001 0x0010) ≡ Ok (record { counts = variant_counts; verdict = Overfed })
-  pub at_420 : judged 6 420 variants (place 0x0001 0x0010) ≡ Ok (record { counts = variant_counts; verdict = Fitting })
+  pub at_419 : judged 6 419 variants (place 0x0001 0x0010) ≡ Ok (record { counts = variant_counts; verdict = Overfed; first_underfed = NoLine })
+  pub at_420 : judged 6 420 variants (place 0x0001 0x0010) ≡ Ok (record { counts = variant_counts; verdict = Fitting; first_underfed = NoLine })
 
 -- M11's settings, and the places that it lists
 abbrev pub settings : Settings
@@ -86,17 +89,17 @@ pub record M12 : Type 0 where
   pub kept : reduced_words found_words ≡ map word (place 0x0001 0x0002 ∷ place 0x0004 0x0002 ∷ place 0x0001 0x0004 ∷ [])
   pub answers : reduced found_words 4 ≡ Ok 3
 
--- replaying answers a low and an end
-abbrev pub with_balances : ℤ → ℤ → Result Balances Refusal
-with_balances least last = Ok (record { least = least; last = last })
+-- replaying answers a low, an end, and where the first token is missing (document 02, c)
+abbrev pub with_balances : ℤ → ℤ → FirstMissing → Result Balances Refusal
+with_balances least last missing = Ok (record { least = least; last = last; first_missing = missing })
 
 pub record WorkedCases : Type 0 where
-  pub m1 : replayed 6 sequence (place 0x0001 0x0004) ≡ with_balances (pos 0) (pos 0)
-  pub m2 : replayed 6 sequence (place 0x0004 0x0030) ≡ with_balances (minus 1) (minus 1)
-  pub m3 : replayed 6 sequence (place 0x0030 0x0002) ≡ with_balances (pos 0) (pos 1)
-  pub m4 : replayed 6 repeated (place 0x0004 0x0030) ≡ with_balances (minus 1) (pos 1)
-  pub m5 : replayed 6 repeated (place 0x0001 0x0004) ≡ with_balances (minus 1) (minus 1)
-  pub m6 : replayed 3 single (place 0x0004 0x0004) ≡ with_balances (minus 1) (pos 0)
+  pub m1 : replayed 6 sequence (place 0x0001 0x0004) ≡ with_balances (pos 0) (pos 0) NoEvent
+  pub m2 : replayed 6 sequence (place 0x0004 0x0030) ≡ with_balances (minus 1) (minus 1) (AtEvent 4)
+  pub m3 : replayed 6 sequence (place 0x0030 0x0002) ≡ with_balances (pos 0) (pos 1) NoEvent
+  pub m4 : replayed 6 repeated (place 0x0004 0x0030) ≡ with_balances (minus 1) (pos 1) (AtEvent 1)
+  pub m5 : replayed 6 repeated (place 0x0001 0x0004) ≡ with_balances (minus 1) (minus 1) (AtEvent 3)
+  pub m6 : replayed 3 single (place 0x0004 0x0004) ≡ with_balances (minus 1) (pos 0) (AtEvent 1)
   pub m7 : M7
   pub m8 : RefusedWith 6 0 (checked 6 []) × RefusedWith 2 0 (checked 6 (bytes "\n"))
   pub m9 : RefusedWith 2 0 (checked 6 (bytes "000000000001\n")) × RefusedWith 3 0 (checked 2 single)

@@ -35,10 +35,15 @@ def activity(code: int, times: int, names: Dict[int, str]) -> str:
     return name if times == 1 else f"{name} ({times} times)"
 
 
+def codes_of(line: bytes) -> bytes:
+    """The activities of a line by their codes."""
+    return bytes.fromhex(line[COUNT_DIGITS:].decode())
+
+
 def way(line: bytes, names: Dict[int, str]) -> str:
     """The activities of a line, each where it first occurs."""
-    codes = bytes.fromhex(line[COUNT_DIGITS:].decode())
-    return ", ".join(activity(code, times, names) for code, times in Counter(codes).items())
+    times_of = Counter(codes_of(line))
+    return ", ".join(activity(code, times, names) for code, times in times_of.items())
 
 
 def size(kind: Variant, cases: int) -> str:

@@ -1,4 +1,5 @@
-"""Lists the places of a log, and says of each how many cases fit it.
+"""Lists the places of a log, and says of each how many cases fit it, and where the first token is
+missing, if one is.
 
     places FILE
 
@@ -111,12 +112,15 @@ def list_places(settings: Settings, log: bytes, out: BinaryIO) -> int:
 def write_list(
     settings: Settings, log: bytes, cases: int, places: List[Place], out: BinaryIO
 ) -> None:
-    """Writes a line for each place, with how many cases fit it."""
+    """Writes a line for each place."""
     text = ask("the writing", write, places)
     for number, place in enumerate(places):
         judgement = ask("the judgement", judge, settings.activities, settings.threshold, log, place)
-        line = text[number * LINE_BYTES:(number + 1) * LINE_BYTES - 1]
-        out.write(b"%s: %d of %d cases fit\n" % (line, judgement.fitting, cases))
+        digits = text[number * LINE_BYTES:(number + 1) * LINE_BYTES - 1]
+        out.write(b"%s: %d of %d cases fit" % (digits, judgement.fitting, cases))
+        if judgement.first_underfed is not None:
+            out.write(b"; first missing token: line %d, event %d" % judgement.first_underfed)
+        out.write(b"\n")
 
 
 def main(arguments: List[str]) -> int:

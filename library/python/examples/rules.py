@@ -51,6 +51,13 @@ def counted(number: int, word: str) -> str:
     return f"{number:,} {word}" if number == 1 else f"{number:,} {word}s"
 
 
+def tolerance(settings: Settings) -> str:
+    """How many cases may deviate."""
+    if settings.threshold == 0:
+        return "no case may deviate"
+    return f"up to {settings.threshold:,} in 1,000 cases may deviate either way"
+
+
 def heading(settings: Settings, size: LogSize, run: Run, rules: int) -> List[str]:
     """What the list is of, and whether it is complete."""
     found = counted(rules, "rule")
@@ -61,13 +68,10 @@ def heading(settings: Settings, size: LogSize, run: Run, rules: int) -> List[str
             f"NOT COMPLETE: {STOPS[run.end]}. Found: {found}; others may be missing, so do not "
             "rebuild from this list."
         )
-    deviating = "no case may deviate"
-    if settings.threshold > 0:
-        deviating = f"up to {settings.threshold:,} in 1,000 cases may deviate either way"
     sizes = f"{counted(settings.inputs, 'input')} and {counted(settings.outputs, 'output')}"
     return [
         f"{counted(size.cases, 'case')} in {counted(size.frames, 'line')} of the log.",
-        f"Rules with up to {sizes}; {deviating}.",
+        f"Rules with up to {sizes}; {tolerance(settings)}.",
         end,
     ]
 

@@ -14,7 +14,7 @@ import threading
 import unittest
 from concurrent.futures import ThreadPoolExecutor
 from contextlib import suppress
-from itertools import product
+from itertools import combinations_with_replacement, product
 from pathlib import Path
 from typing import Any, Callable, Dict, List, NamedTuple, Optional
 from unittest import mock
@@ -28,14 +28,15 @@ sys.path.insert(0, str(PYTHON))
 
 import placelist  # noqa: E402
 from placelist import (  # noqa: E402
-    Balances, End, Judgement, LogSize, Place, Refusal, RefusalKind, Rejected, Run, Settings,
-    Variant, Verdict, Version, check, judge, reduce, replay, report, search, summarize, version,
-    write,
+    Balances, End, Judgement, LogSize, MissingToken, Place, Refusal, RefusalKind, Rejected, Run,
+    Settings, Variant, Verdict, Version, check, judge, reduce, replay, report, search, summarize,
+    version, write,
 )
 
-# M1, M4 and M11 of the written scope.
+# M1, M4, M7 and M11 of the written scope.
 STRAIGHT = b"00000001000203040501\n"
 REPEATED = b"0000000100040202030301\n"
+FOUR_LINES = b"0000001F0002030401\n0000001B0003020401\n000000170002030501\n000000130003020501\n"
 SHORT = b"00000001000201\n"
 SHORT_SETTINGS = Settings(activities=3, inputs=2, outputs=2, threshold=0)
 SHORT_FOUND = [Place(1, 2), Place(4, 2), Place(5, 6), Place(1, 4)]
@@ -84,22 +85,21 @@ class Worked(unittest.TestCase):
 
     def test_balances(self) -> None:
         for activities, log, place, expected in [
-            (6, STRAIGHT, Place(0x0001, 0x0004), (0, 0)),
-            (6, STRAIGHT, Place(0x0004, 0x0030), (-1, -1)),
-            (6, STRAIGHT, Place(0x0030, 0x0002), (0, 1)),
-            (6, REPEATED, Place(0x0004, 0x0030), (-1, 1)),
-            (6, REPEATED, Place(0x0001, 0x0004), (-1, -1)),
-            (3, SHORT, Place(0x0004, 0x0004), (-1, 0)),
+            (6, STRAIGHT, Place(0x0001, 0x0004), (0, 0, None)),
+            (6, STRAIGHT, Place(0x0004, 0x0030), (-1, -1, 4)),
+            (6, STRAIGHT, Place(0x0030, 0x0002), (0, 1, None)),
+            (6, REPEATED, Place(0x0004, 0x0030), (-1, 1, 1)),
+            (6, REPEATED, Place(0x0001, 0x0004), (-1, -1, 3)),
+            (3, SHORT, Place(0x0004, 0x0004), (-1, 0, 1)),
         ]:
             with self.subTest(log=log, place=place):
                 self.assertEqual(replay(activities, log, place), Balances(*expected))
 
     def test_threshold(self) -> None:
-        log = b"0000001F0002030401\n0000001B0003020401\n000000170002030501\n000000130003020501\n"
-        self.assertEqual(check(6, log), LogSize(frames=4, cases=100))
+        self.assertEqual(check(6, FOUR_LINES), LogSize(frames=4, cases=100))
         for threshold, verdict in [(419, Verdict.OVERFED), (420, Verdict.FITTING)]:
-            answer = judge(6, threshold, log, Place(0x0001, 0x0010))
-            self.assertEqual(answer, Judgement(58, 0, 42, 0, verdict))
+            answer = judge(6, threshold, FOUR_LINES, Place(0x0001, 0x0010))
+            self.assertEqual(answer, Judgement(58, 0, 42, 0, verdict, None))
             self.assertIs(type(answer.verdict), Verdict)
 
     def test_cache_sizes(self) -> None:
@@ -153,6 +153,76 @@ class Worked(unittest.TestCase):
 
     def test_docstrings(self) -> None:
         self.assertEqual(doctest.testmod(placelist).failed, 0)
+
+
+class MissingTokens(unittest.TestCase):
+    """Where the first token is missing."""
+
+    def in_trace(self, log: bytes, place: Place) -> Optional[int]:
+        balances = replay(16, log, place)
+        self.assertIs(type(balances), Balances)
+        self.assertEqual(balances.first_missing is None, balances.least == 0)
+        return balances.first_missing
+
+    def in_log(self, log: bytes, place: Place) -> Optional[MissingToken]:
+        """It is the same at every threshold."""
+        least, *others = (judge(16, threshold, log, place) for threshold in (0, 1, 500, 1000))
+        first = least.first_underfed
+        self.assertEqual(first is None, least.underfed + least.both == 0)
+        self.assertIn(type(first), (MissingToken, type(None)))
+        self.assertEqual([other.first_underfed for other in others], [first] * 3)
+        return first
+
+    def test_first_line(self) -> None:
+        for place, expected in [
+            (Place(0x0001, 0x0002), None),
+            (Place(0x0001, 0x0010), None),
+            (Place(0x0002, 0x0001), (0, 0)),
+            (Place(0x0008, 0x0004), (0, 1)),
+            (Place(0x0004, 0x0008), (1, 1)),
+            (Place(0x0010, 0x0002), (2, 4)),
+            (Place(0x0006, 0x0008), (1, 1)),  # both underfed and overfed
+        ]:
+            with self.subTest(place=place):
+                self.assertEqual(self.in_log(FOUR_LINES, place), expected)
+
+    def test_threshold(self) -> None:
+        for threshold, verdict in [(419, Verdict.UNDERFED), (420, Verdict.FITTING)]:
+            answer = judge(6, threshold, FOUR_LINES, Place(0x0010, 0x0002))
+            token = MissingToken(line=2, event=4)
+            self.assertEqual(answer, Judgement(58, 42, 0, 0, verdict, token))
+
+    def test_largest_indices(self) -> None:
+        longest = b"0000000100" + b"02" * 252 + b"01\n"
+        place = Place(0x0008, 0x0002)
+        self.assertEqual(self.in_trace(longest, place), 253)
+        log = b"00000001000301\n" * 4095 + longest
+        self.assertEqual(self.in_log(log, place), (4095, 253))
+
+    def plainly(self, line: bytes, place: Place) -> Optional[int]:
+        """The first event of a line at which a token is missing, by the definition."""
+        codes = bytes.fromhex(line[8:].decode())
+        balance = 0
+        for event, code in enumerate(codes):
+            balance -= code in place.output_codes
+            if balance < 0:
+                return event
+            balance += code in place.input_codes
+        return None
+
+    def expect_plainly(self, log: bytes, place: Place) -> None:
+        events = [self.plainly(line, place) for line in log.splitlines()]
+        tokens = (token for token in enumerate(events) if token[1] is not None)
+        self.assertEqual(self.in_trace(log, place), events[0])
+        self.assertEqual(self.in_log(log, place), next(tokens, None))
+
+    def test_offices(self) -> None:
+        inputs = combinations_with_replacement(range(11), 2)
+        outputs = [{1}, {3}, {4, 5}, {0, 9}]
+        for office, *codes in product(OFFICES[:3], inputs, outputs):
+            log = (EXAMPLES / f"{office}.log").read_bytes()[11:]
+            with self.subTest(office=office, codes=codes):
+                self.expect_plainly(log, Place.from_codes(*codes))
 
 
 class Variants(unittest.TestCase):
@@ -218,7 +288,7 @@ class CaseCounts(unittest.TestCase):
         self.assertEqual(cases, sorted([fitting, overfed], reverse=True))
         for at, verdict in [(threshold - 1, Verdict.OVERFED), (threshold, Verdict.FITTING)]:
             answer = judge(3, at, log, Place(0x0001, 0x0004))
-            self.assertEqual(answer, Judgement(fitting, 0, overfed, 0, verdict))
+            self.assertEqual(answer, Judgement(fitting, 0, overfed, 0, verdict, None))
 
     def test_large_counts(self) -> None:
         most, more, less = 2**32 - 1, 2**31, 2**31 - 1
@@ -462,6 +532,7 @@ class Header(unittest.TestCase):
         "const uint32_t *": ctypes.POINTER(ctypes.c_uint32),
         "uint8_t *": ctypes.POINTER(ctypes.c_uint8),
         "int16_t *": ctypes.POINTER(ctypes.c_int16),
+        "int32_t *": ctypes.POINTER(ctypes.c_int32),
         "uint32_t *": ctypes.POINTER(ctypes.c_uint32),
         "uint64_t *": ctypes.POINTER(ctypes.c_uint64),
     }
@@ -494,6 +565,8 @@ class Header(unittest.TestCase):
             body = re.search(rf"enum placelist_{name} \{{(.*?)\}}", self.text, re.DOTALL)[1]
             numbers = {int(number) for number in re.findall(r"= (\d+)", body)}
             self.assertEqual(numbers - {0}, {member.value for member in kind} - {0})
+        none = re.search(r"#define PLACELIST_NONE \((-\d+)\)", self.text)[1]
+        self.assertEqual(placelist._NONE, int(none))
 
     def test_entries(self) -> None:
         body = re.search(r"enum placelist_variant_index \{(.*?)\}", self.text, re.DOTALL)[1]
@@ -640,8 +713,9 @@ class Places(unittest.TestCase):
         self.assertRegex(rejected, r"^rejected: \d+ underfed, \d+ overfed, \d+ both$")
         if last[:2] == "00":
             self.assertEqual(lines.pop(0), f"reduced: {len(lines)} places")
+        missing = r"; first missing token: line \d+, event \d+"
         for line in lines:
-            self.assertRegex(line, rf"^[0-9A-F]{{8}}: \d+ of {cases} cases fit$")
+            self.assertRegex(line, rf"^[0-9A-F]{{8}}: \d+ of {cases} cases fit({missing})?$")
         self.assertEqual((run.returncode, run.stderr), (0 if last[:2] == "00" else 4, ""))
         return [line[:8] for line in lines]
 

@@ -1,4 +1,5 @@
-//! Lists the places of a log, and says of each how many cases fit it.
+//! Lists the places of a log, and says of each how many cases fit it, and where the first token is
+//! missing, if one is.
 //!
 //! ```text
 //! places FILE
@@ -10,7 +11,7 @@
 //! opens one that takes everything in its place.
 
 use placelist::{check, judge, reduce, search, write};
-use placelist::{End, Place, Refusal, Rejected, Settings, Verdict};
+use placelist::{End, Judgement, MissingToken, Place, Refusal, Rejected, Settings, Verdict};
 use placelist::{LINE_BYTES, PROGRAM_BUDGET, PROGRAM_FOUND, PROGRAM_REJECTED};
 use std::ffi::{OsStr, OsString};
 use std::io::{self, Write};
@@ -168,7 +169,7 @@ fn reduced(words: &[u32]) -> Result<Vec<u32>, Failure> {
     Ok(kept)
 }
 
-/// Lists the places, with how many cases fit each.
+/// Lists the places, a line for each.
 fn write_list(
     settings: Settings,
     log: &[u8],
@@ -182,9 +183,20 @@ fn write_list(
         let place = Place::from_word(*word);
         let judgement = judge(settings.activities, settings.threshold, log, place)
             .map_err(refused("the judgement"))?;
-        let (digits, fitting) = (&line[..LINE_BYTES - 1], judgement.fitting);
-        let digits = String::from_utf8_lossy(digits);
-        out.push_str(&format!("{digits}: {fitting} of {cases} cases fit\n"));
+        out.push_str(&String::from_utf8_lossy(&line[..LINE_BYTES - 1]));
+        tell_judgement(judgement, cases, out);
     }
     Ok(())
+}
+
+/// Ends the line of a place.
+fn tell_judgement(judgement: Judgement, cases: u64, out: &mut String) {
+    let fitting = judgement.fitting;
+    out.push_str(&format!(": {fitting} of {cases} cases fit"));
+    if let Some(MissingToken { line, event }) = judgement.first_underfed {
+        out.push_str(&format!(
+            "; first missing token: line {line}, event {event}"
+        ));
+    }
+    out.push('\n');
 }

@@ -40,7 +40,12 @@ pub struct LogSize {
     pub cases: u64,
 }
 
-/// The token balances of a trace on a place.
+/// An index of what may be nowhere: the archive gives a number below 0 then.
+pub(crate) fn index(number: i32) -> Option<usize> {
+    usize::try_from(number).ok()
+}
+
+/// The token balances of a trace on a place, and where the first token is missing.
 #[derive(Debug, Clone, Copy, PartialEq, Eq)]
 pub struct Balances {
     /// The least balance over the events, each taken after the outputs of the event and before its
@@ -48,6 +53,9 @@ pub struct Balances {
     pub least: i16,
     /// The balance after the trace. Above 0 the trace overfeeds the place.
     pub last: i16,
+    /// The first event at which a token is missing, that is, at which the balance, taken as for
+    /// `least`, is below 0: 0 to 253. `None` exactly where `least` is 0.
+    pub first_missing: Option<usize>,
 }
 
 /// The verdict on a place over a log, and the mark of a rejected place.
@@ -77,8 +85,25 @@ impl Verdict {
     }
 }
 
+/// Where in a log a token is missing.
+#[derive(Debug, Clone, Copy, PartialEq, Eq)]
+pub struct MissingToken {
+    /// The line, 0 to 4,095.
+    pub line: usize,
+    /// The event of that line, 0 to 253.
+    pub event: usize,
+}
+
+impl MissingToken {
+    /// That of two indices that the archive gave, which are both nowhere or neither.
+    pub(crate) fn of(line: i32, event: i32) -> Option<MissingToken> {
+        let (line, event) = index(line).zip(index(event))?;
+        Some(MissingToken { line, event })
+    }
+}
+
 /// What judging a place answers: four numbers of cases, which add up to all cases of the log, at
-/// most 17,592,186,040,320, and the verdict.
+/// most 17,592,186,040,320, the verdict, and where the first token is missing.
 #[derive(Debug, Clone, Copy, PartialEq, Eq)]
 pub struct Judgement {
     /// Cases that fit.
@@ -91,6 +116,10 @@ pub struct Judgement {
     pub both: u64,
     /// The verdict at the threshold.
     pub verdict: Verdict,
+    /// The first line whose trace underfeeds the place, and its first event at which a token is
+    /// missing, at any threshold. `None` exactly where no cases underfeed the place: `underfed` and
+    /// `both` are 0.
+    pub first_underfed: Option<MissingToken>,
 }
 
 /// How a search ended.

@@ -38,6 +38,7 @@ extern "C" {
         value: *mut u64,
         least: *mut i16,
         last: *mut i16,
+        missing: *mut i32,
     ) -> u8;
 
     pub fn placelist_judge(
@@ -50,6 +51,8 @@ extern "C" {
         value: *mut u64,
         counts: *mut [u64; 4],
         verdict: *mut u8,
+        line: *mut i32,
+        event: *mut i32,
     ) -> u8;
 
     pub fn placelist_summarize(

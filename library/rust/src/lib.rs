@@ -2,14 +2,15 @@
 //!
 //! A *place* has a set of input activities, which each put a token in, and a set of output
 //! activities, which each take one out. This crate checks a log, replays and judges a place on it,
-//! summarizes its variants, searches all places that the log fits, reduces a list of places and
-//! writes it. Every call is proved to answer, for all arguments, what the written scope of the
-//! library (document 01) says, whose own word for a thing stands in brackets; this crate hands
-//! arguments and answers over and does nothing else.
+//! saying where the first token is missing, summarizes its variants, searches all places that the
+//! log fits, reduces a list of places and writes it. Every call is proved to answer, for all
+//! arguments, what the written scope of the library (document 01) says, whose own word for a thing
+//! stands in brackets; this crate hands arguments and answers over and does nothing else.
 //!
 //! An activity is a code from 0 to 15: 0 is the start of a case, 1 its end. A set is a `u16`, with
 //! the bit `1 << code` for each activity. A log is text, a frame for each line: eight hexadecimal
-//! digits of how many cases went this way, two for each activity, a line feed. Lines count from 0.
+//! digits of how many cases went this way, two for each activity, a line feed. Lines count from 0,
+//! and so do the events of a trace, one for each activity of its frame.
 //!
 //! Nothing is allocated: a caller lends the buffers. After a refusal they are as they were, and in
 //! any case beyond what was written. The numbers of refusals are those of [`RefusalKind`].
@@ -44,11 +45,12 @@ mod limits;
 mod refusal;
 mod words;
 
-pub use answers::{Balances, End, Judgement, LogSize, Run, Verdict, Version};
+pub use answers::{Balances, End, Judgement, LogSize, MissingToken, Run, Verdict, Version};
 pub use limits::*;
 pub use refusal::{Refusal, RefusalKind};
 pub use words::{Place, Rejected, Variant};
 
+use answers::index;
 use refusal::refused;
 
 /// The settings of a search.
@@ -107,12 +109,15 @@ pub fn check(activities: u8, text: &[u8]) -> Result<LogSize, Refusal> {
 /// let place = Place { inputs: 0x0004, outputs: 0x0030 };
 /// let balances = replay(6, b"0000000100040202030301\n", place)?;
 /// assert_eq!((balances.least, balances.last), (-1, 1));
+/// assert_eq!(balances.first_missing, Some(1)); // 4, before any 2
 /// # Ok::<(), placelist::Refusal>(())
 /// ```
 pub fn replay(activities: u8, text: &[u8], place: Place) -> Result<Balances, Refusal> {
     let mut value = 0;
     let (mut least, mut last) = (0, 0);
-    // SAFETY: the text is a slice, value, least and last are locals of their own (see `ffi`).
+    let mut missing = 0;
+    // SAFETY: the text is a slice, value, least, last and missing are locals of their own (see
+    // `ffi`).
     let number = unsafe {
         ffi::placelist_replay(
             activities,
@@ -123,16 +128,35 @@ pub fn replay(activities: u8, text: &[u8], place: Place) -> Result<Balances, Ref
             &mut value,
             &mut least,
             &mut last,
+            &mut missing,
         )
     };
     refused(number, value)?;
-    Ok(Balances { least, last })
+    Ok(Balances {
+        least,
+        last,
+        first_missing: index(missing),
+    })
 }
 
-/// Judges a place over a log: how many cases fit it, and the verdict at a threshold in thousandths.
+/// Judges a place over a log: how many cases fit it, the verdict at a threshold in thousandths, and
+/// where the first token is missing.
 ///
 /// # Errors
 /// In this order: 1, 7, 6, then of the first faulty line 5, 2, 3 or 4.
+///
+/// ```
+/// use placelist::{judge, MissingToken, Place, Verdict};
+///
+/// let log = b"0000005A0002030401\n000000060003020401\n0000000400020401\n";
+/// let place = Place { inputs: 0x0008, outputs: 0x0010 }; // 4 only after 3
+/// let judgement = judge(5, 50, log, place)?;
+/// assert_eq!((judgement.fitting, judgement.underfed), (96, 4));
+/// assert_eq!(judgement.verdict, Verdict::Fitting); // 4 of 100 cases are not more than 50 of 1000
+/// // the last line has no 3 before its 4
+/// assert_eq!(judgement.first_underfed, Some(MissingToken { line: 2, event: 2 }));
+/// # Ok::<(), placelist::Refusal>(())
+/// ```
 pub fn judge(
     activities: u8,
     threshold: u16,
@@ -142,7 +166,9 @@ pub fn judge(
     let mut value = 0;
     let mut counts = [0; 4];
     let mut verdict = 0;
-    // SAFETY: the text is a slice, value, counts and verdict are locals of their own (see `ffi`).
+    let (mut line, mut event) = (0, 0);
+    // SAFETY: the text is a slice, value, counts, verdict, line and event are locals of their own
+    // (see `ffi`).
     let number = unsafe {
         ffi::placelist_judge(
             activities,
@@ -154,6 +180,8 @@ pub fn judge(
             &mut value,
             &mut counts,
             &mut verdict,
+            &mut line,
+            &mut event,
         )
     };
     refused(number, value)?;
@@ -164,6 +192,7 @@ pub fn judge(
         overfed,
         both,
         verdict: Verdict::of(verdict),
+        first_underfed: MissingToken::of(line, event),
     })
 }
 

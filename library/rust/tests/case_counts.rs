@@ -23,6 +23,7 @@ fn counted(log: &[u8], fitting: u64, overfed: u64, threshold: u16) {
         overfed,
         both: 0,
         verdict: Verdict::Overfed,
+        first_underfed: None,
     };
     assert_eq!(judge(3, threshold - 1, log, PLACE), Ok(below));
     let at = Judgement {

@@ -6,9 +6,9 @@ use std::collections::BTreeMap;
 
 const HEADER: &str = include_str!("../../placelist.h");
 
-/// Macros that Rust has no use for: the guard of the header, the version as an expression, and the
-/// room for a refusal in words.
-const ONLY_IN_C: [&str; 3] = ["H", "VERSION", "EXPLAIN_BYTES"];
+/// Macros that Rust has no use for: the guard of the header, the version as an expression, the
+/// index of what is nowhere, and the room for a refusal in words.
+const ONLY_IN_C: [&str; 4] = ["H", "VERSION", "NONE", "EXPLAIN_BYTES"];
 
 type Named = BTreeMap<String, u64>;
 

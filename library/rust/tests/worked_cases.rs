@@ -24,10 +24,11 @@ fn place(inputs: u16, outputs: u16) -> Place {
     Place { inputs, outputs }
 }
 
-/// The least and the last balance of the first trace.
-fn balances(activities: u8, text: &[u8], inputs: u16, outputs: u16) -> (i16, i16) {
+/// The least and the last balance of the first trace, and the first event at which a token is
+/// missing.
+fn balances(activities: u8, text: &[u8], inputs: u16, outputs: u16) -> (i16, i16, Option<usize>) {
     let b = replay(activities, text, place(inputs, outputs)).unwrap();
-    (b.least, b.last)
+    (b.least, b.last, b.first_missing)
 }
 
 /// M11 with these resources, from full buffers; the buffers as they were left.
@@ -40,12 +41,12 @@ fn run_short(cache: usize, list: usize, budget: u32) -> (Run, Vec<u64>, Vec<u32>
 
 #[test]
 fn m1_to_m6_balances() {
-    assert_eq!(balances(6, STRAIGHT, 0x0001, 0x0004), (0, 0));
-    assert_eq!(balances(6, STRAIGHT, 0x0004, 0x0030), (-1, -1));
-    assert_eq!(balances(6, STRAIGHT, 0x0030, 0x0002), (0, 1));
-    assert_eq!(balances(6, REPEATED, 0x0004, 0x0030), (-1, 1));
-    assert_eq!(balances(6, REPEATED, 0x0001, 0x0004), (-1, -1));
-    assert_eq!(balances(3, SHORT, 0x0004, 0x0004), (-1, 0));
+    assert_eq!(balances(6, STRAIGHT, 0x0001, 0x0004), (0, 0, None));
+    assert_eq!(balances(6, STRAIGHT, 0x0004, 0x0030), (-1, -1, Some(4)));
+    assert_eq!(balances(6, STRAIGHT, 0x0030, 0x0002), (0, 1, None));
+    assert_eq!(balances(6, REPEATED, 0x0004, 0x0030), (-1, 1, Some(1)));
+    assert_eq!(balances(6, REPEATED, 0x0001, 0x0004), (-1, -1, Some(3)));
+    assert_eq!(balances(3, SHORT, 0x0004, 0x0004), (-1, 0, Some(1)));
 }
 
 #[test]
@@ -63,6 +64,7 @@ fn m7_threshold() {
         overfed: 42,
         both: 0,
         verdict: Verdict::Overfed,
+        first_underfed: None,
     };
     assert_eq!(at(419), overfed);
     let fitting = Judgement {

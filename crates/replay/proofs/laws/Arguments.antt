@@ -16,13 +16,16 @@ use Rattle.places.specs.declared.Place.{Place}
 use Rattle.places.specs.Places.{place_under, place_fault}
 use Rattle.event_log_spec.specs.declared.LogSize.{LogSize}
 use Rattle.event_log_spec.specs.Frames.{WrittenLog}
-use Rattle.event_log_spec.specs.Lines.{frames_of}
+use Rattle.event_log_spec.specs.Lines.{frames_of, frame_at}
 use Rattle.event_log_spec.specs.Checking.{log_refusal, log_refusal_with}
 use Rattle.limits.proofs.laws.AnswerNumbers.{answer_refused, answer_accepted}
 use Rattle.event_log_spec.proofs.laws.LogChecks.{log_passes}
 use Rattle.event_log_spec.proofs.laws.Written.{text_written, bound_most}
 use Rattle.event_log_spec.proofs.laws.WiderBound.{log_wider}
+use Rattle.event_log.specs.FrameIndex.{activity_digits}
 use Rattle.event_log.specs.Pass.{text_checked}
+use Rattle.event_log.proofs.laws.FrameDigits.{DigitsOf, frame_digits}
+use Rattle.event_log.proofs.laws.IndexedFrames.{first_found}
 use Rattle.replay_spec.specs.Answers.{first_trace, balances, replayed, replayed_with, judgement, judged, judged_with}
 use Rattle.replay.specs.Replaying.{place_and_text_checked}
 
@@ -50,6 +53,11 @@ module _ (A : ℕ) (text : List ℕ) (p : Place) where
   log_known bound size e =
       let passes = (log_passes A text None (place_fault A 0 p)).0 (arguments_pass size e) in
       log_wider (bound_most A bound) (text_written A text passes.some_byte passes.lines_pass)
+
+  -- and of its first frame the activity digits are known
+  pub first_known : bound_in_range A ≡ true → (size : LogSize) → place_and_text_checked A text p ≡ Ok size
+      → DigitsOf (frame_at text 0) (activity_digits (frame_at text 0))
+  first_known bound size e = frame_digits _ (first_found text (log_known bound size e)).under
 
   -- what replaying answers
   pub replay_setting : bound_in_range A ≡ false → replayed A text p ≡ Err InvalidSetting

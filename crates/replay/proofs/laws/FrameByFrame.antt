@@ -68,10 +68,10 @@ module _ (p : Place) where
   counts_more frames f = simp cases_where_more (row_more (case_counts p frames) f.cases (underfeeds f.trace p) (overfeeds f.trace p))
 
 -- of a log's counts the verdict is the log's, and their sum is small enough to be compared
-module _ (p : Place) (frames : List Frame) where
-  pub verdict_counted : (T : ℕ) → verdict_of T (cases_of (case_counts p frames)) (case_counts p frames) ≡ verdict T frames p
+module _ (p : Place) (frames : List Frame) {counts : CaseCounts} where
+  pub verdict_counted : (T : ℕ) → counts ≡ case_counts p frames → verdict_of T (cases_of counts) counts ≡ verdict T frames p
   unfolding verdict
-  verdict_counted T = ap (λ (n : ℕ). verdict_of T n (case_counts p frames)) (counts_add_up p frames)
+  verdict_counted T e = rw e (ap (λ (n : ℕ). verdict_of T n (case_counts p frames)) (counts_add_up p frames))
 
-  pub counts_bounded : {A : ℕ} {text : List ℕ} → WrittenLog A frames text → cases_of (case_counts p frames) < 2 ^ 54
-  counts_bounded w = omega (arith, counts_add_up p frames, total_bounded w.each, w.few_frames)
+  pub counts_bounded : {A : ℕ} {text : List ℕ} → WrittenLog A frames text → counts ≡ case_counts p frames → cases_of counts < 2 ^ 54
+  counts_bounded w e = rw e (omega (arith, counts_add_up p frames, total_bounded w.each, w.few_frames))

@@ -77,7 +77,8 @@ module _ (p : Place) (frames : List Frame) where
 abbrev pub frame : ℕ → List ℕ → Frame
 frame cases trace = record { cases = cases; trace = trace }
 
--- no judgement tells the one list of frames from the other
+-- the counts and the verdicts over the one list of frames are those over the other; the first line
+-- that underfeeds a place may have another number there
 pub record JudgedAlike (frames others : List Frame) : Type 0 where
   pub counts : (p : Place) → case_counts p frames ≡ case_counts p others
   pub total : total_cases frames ≡ total_cases others
@@ -110,7 +111,7 @@ module _ (before between after : List Frame) (trace : List ℕ) (c d : ℕ) wher
   unfolding total_cases
   total_merged = sum_merged (λ f. f.cases) refl
 
-  -- two frames with one trace are judged as one frame with the cases of both
+  -- two frames with one trace count as one frame with the cases of both
   pub equal_frames : JudgedAlike repeated merged
   unfolding verdict
   equal_frames =

@@ -5,18 +5,18 @@
 -- Assumes nothing.
 use Prim.Native.Nat.{ℕ, suc, ◌≤◌, ◌<◌}
 use native.Mathlib.Omega.{arith}
-use mathlib.Core.Path.{◌≡◌, refl}
-use mathlib.Core.Bool.{Bool, true, false, cond}
+use mathlib.Core.Path.{◌≡◌, refl, sym, ◌∙◌}
+use mathlib.Core.Bool.{Bool, true, false, cond, true≢false}
 use mathlib.Core.List.{List, [], ◌∷◌, map}
 use lib.IntN.{ℤ, pos, negsuc}
-use lib.Signed.{le_z}
+use lib.Signed.{lt_z, le_z}
 use lib.ListN.{length, take, length-take}
 use Rattle.foundation.specs.Lists.{Each, each_nil, each_cons, up_to}
 use Rattle.foundation.proofs.laws.Lists.{each_head, each_tail}
-use Rattle.foundation.proofs.laws.Booleans.{cond_either}
+use Rattle.foundation.proofs.laws.Booleans.{by_test, cond_either}
 use Rattle.foundation.proofs.laws.Each.{each_imply, each_up_to, up_to_each, length_up_to}
 use Rattle.foundation.proofs.laws.Sums.{sum_le_length}
-use Rattle.foundation.proofs.laws.Integers.{le_z_refl, le_z_trans, le_z_total, difference_le}
+use Rattle.foundation.proofs.laws.Integers.{le_z_refl, le_z_trans, le_z_total, le_z_lt_z_trans, difference_le}
 use Rattle.places.specs.declared.Place.{Place}
 use Rattle.places.specs.Sets.{has}
 use Rattle.event_log_spec.specs.Frames.{most_events}
@@ -58,6 +58,16 @@ module _ {A : Type 0} (f : A → ℤ) where
     where
       least : ℤ
       least = least_of (map f (y ∷ ys))
+
+  -- where the least is not below 0, none is
+  pub none_below : (xs : List A) → lt_z (least_of (map f xs)) (pos 0) ≡ false → Each (λ (x : A). lt_z (f x) (pos 0) ≡ false) xs
+  none_below xs none =
+      each_imply
+      (λ x least. by_test
+      (lt_z (f x) (pos 0))
+      (λ t. absurd (true≢false (sym (le_z_lt_z_trans (least_of (map f xs)) (f x) (pos 0) least t) ∙ none)))
+      (λ g. g))
+      (least_bounds xs)
 
 -- a count is at most the number of events
 pub count_le_length : (s : ℕ) (events : List ℕ) → count s events ≤ length events

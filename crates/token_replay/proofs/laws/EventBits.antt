@@ -6,7 +6,10 @@ use Rattle.std.proofs.Common.{◌≡◌, ℕ, ◌+◌, ◌*◌, ◌%◌, ◌≤�
 use Rattle.std.proofs.lemmas.Int.{ints}
 use Rattle.std.specs.Int.{int_min}
 use Rattle.std.specs.Int.Signed.{mag}
+use lib.Signed.{lt_z}
 use mir.Syntax.{w16}
+use mir.Val.{SFits}
+use mir.ValLaws.{to_z-of_z}
 use Rattle.foundation.proofs.laws.Differences.{mag_add, mag_sub}
 use Rattle.places.specs.Sets.{has}
 use Rattle.event_log_spec.specs.Frames.{most_events}
@@ -16,8 +19,15 @@ use Rattle.token_replay.specs.declared.Tokens.{Tokens}
 use Rattle.token_replay.specs.Tokens.{after_digit}
 
 -- a number of 16 bits, read back from its bits
-abbrev back : ℤ → ℤ
+abbrev pub back : ℤ → ℤ
 back z = to_z w16 (of_z w16 z)
+
+-- so its sign is that of the number
+pub below_zero : (z : ℤ) → SFits w16 z → lt_z (back z) (pos 0) ≡ lt_z z (pos 0)
+below_zero z f = rw (to_z-of_z w16 z f)
+
+pub above_zero : (z : ℤ) → SFits w16 z → lt_z (pos 0) (back z) ≡ lt_z (pos 0) z
+above_zero z f = rw (to_z-of_z w16 z f)
 
 -- a balance from which a token or none is taken, as the machine computes it
 abbrev taken : ℤ → ℕ → ℤ

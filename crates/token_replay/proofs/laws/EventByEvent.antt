@@ -64,14 +64,14 @@ count_next s trace k more =
 
 module _ (p : Place) (trace : List ℕ) where
   -- the balance after k events, and the least balance at them
-  abbrev after : ℕ → Tokens
+  abbrev pub after : ℕ → Tokens
   after k =
       record {
         balance = sub_ℕ (count p.inputs (take k trace)) (count p.outputs (take k trace));
         least = least_of (map (balance_at p trace) (up_to k));
       }
 
-  least_next : (k : ℕ) → smaller (after k).least (balance_at p trace k) ≡ (after (suc k)).least
+  pub least_next : (k : ℕ) → smaller (after k).least (balance_at p trace k) ≡ (after (suc k)).least
   unfolding least_of balance_at count
   least_next zero = smaller_second (pos 0) (balance_at p trace 0) (difference_le 0 (count p.outputs (take 1 trace)) 0 0 (omega arith))
   least_next (suc k) = sym (least_last (balance_at p trace) (up_to (suc k)) (suc k) (omega (arith, length_up_to (suc k))))
@@ -92,7 +92,7 @@ module _ (p : Place) (trace : List ℕ) where
         difference_add fed (count p.outputs (take (suc k) trace)) (has p.inputs (get_or trace k 0))
         ∙ ap (λ (n : ℕ). sub_ℕ n (count p.outputs (take (suc k) trace))) (count_next p.inputs trace k more)
 
-    next : after_event p (after k) (get_or trace k 0) ≡ after (suc k)
+    pub next : after_event p (after k) (get_or trace k 0) ≡ after (suc k)
     unfolding after_event
     next = rw taken_next (λ i. record { balance = balance_next i; least = least_next k i })
 

@@ -2,15 +2,15 @@
 -- says. Where no two digits are left, all events have been replayed.
 -- Assumes nothing.
 use Rattle.std.proofs.Common.{ℕ, List, [], ◌∷◌, ◌++◌, length, get_or, ◌≡◌, ap, ◌∙◌, ◌<◌, arith}
-use mathlib.Core.Bool.{and-eq-true_iff}
-use Rattle.std.specs.List.{list_all, fold}
-use Rattle.hex_digits.specs.Digits.{is_digit}
+use lib.ListN.{length-append}
+use Rattle.std.specs.List.{fold}
 use Rattle.places.specs.declared.Place.{Place}
 use Rattle.token_replay.specs.declared.DigitSets.{DigitSets}
 use Rattle.token_replay.specs.declared.Tokens.{Tokens}
 use Rattle.event_log_spec.specs.Lines.{codes_in}
 use Rattle.token_replay.specs.Tokens.{after_digit, after_event, after_trace, digit_sets}
 use Rattle.token_replay.proofs.laws.ByDigit.{event_by_digit}
+use Rattle.token_replay.proofs.laws.DigitPairs.{pair_first}
 use Rattle.token_replay.proofs.laws.EventBits.{mag_event}
 use Rattle.token_replay.proofs.laws.EventByEvent.{event_by_event}
 use Rattle.token_replay.proofs.replay_trace.Invariants.{Reached}
@@ -19,24 +19,19 @@ use Rattle.token_replay.proofs.replay_trace.Goals as goal
 module _ (digits : List ℕ) (sets : DigitSets) {tokens : Tokens} where
   one_more : (pair left : List ℕ) {next : Tokens} → length pair ≡ 2 → next ≡ after_digit sets tokens (get_or pair 1 0)
       → Reached digits (pair ++ left) sets tokens → Reached digits left sets next
-  unfolding codes_in
-  one_more [] left two e r = absurd (omega arith)
-  one_more (d ∷ []) left two e r = absurd (omega arith)
-  one_more (d ∷ (digit ∷ [])) left two e r =
-      let first = (and-eq-true_iff (is_digit d) (list_all is_digit (digit ∷ left))).0 r.known in
-      let second = (and-eq-true_iff (is_digit digit) (list_all is_digit left)).0 first.1 in
+  one_more pair left two e r =
+      let first = pair_first pair left two r.known in
       rw e (
       record {
-        few = omega (arith, mag_event sets tokens digit, r.few);
-        known = second.1;
+        few = omega (arith, mag_event sets tokens (get_or pair 1 0), r.few, length-append pair left);
+        known = first.known;
         alike = λ place same.
             ap
             (λ (t : Tokens). fold (after_event place) t (codes_in left))
-            (ap (λ (s : DigitSets). after_digit s tokens digit) same ∙ event_by_digit place tokens digit second.0)
-            ∙ r.alike place same;
+            (ap (λ (s : DigitSets). after_digit s tokens (get_or pair 1 0)) same ∙ event_by_digit place tokens (get_or pair 1 0) first.digit)
+            ∙ (rw first.codes at (r.alike place same));
       }
       )
-  one_more (d ∷ (digit ∷ (x ∷ xs))) left two e r = absurd (omega arith)
 
   none_left : (left : List ℕ) → length left < 2 → Reached digits left sets tokens → (place : Place) → sets ≡ digit_sets place
       → tokens ≡ after_trace place (codes_in digits)

@@ -4,21 +4,15 @@
 use mathlib.Core.Path.{◌≡◌}
 use Prim.Native.Nat.{ℕ}
 use borrow.Author.Rules.{rules}
-use lib.IntN.{ℤ, pos}
+use lib.IntN.{pos}
 use lib.Signed.{lt_z}
 use mir.Syntax.{w16}
 use mir.Val.{SFits, of_z, to_z}
-use mir.ValLaws.{to_z-of_z}
+use Rattle.token_replay.proofs.laws.EventBits.{below_zero, above_zero}
 use Rattle.replay_spec.specs.Judgement.{verdict_where, mark}
 use Rattle.token_replay.specs.declared.Tokens.{Tokens}
 use Rattle.replay.specs.Replaying.{kind_of, with_cases}
 use Rattle.replay.proofs.judgement.add_cases.Goals as goal
-
-below_zero : (z : ℤ) → SFits w16 z → lt_z (to_z w16 (of_z w16 z)) (pos 0) ≡ lt_z z (pos 0)
-below_zero z f = rw (to_z-of_z w16 z f)
-
-above_zero : (z : ℤ) → SFits w16 z → lt_z (pos 0) (to_z w16 (of_z w16 z)) ≡ lt_z (pos 0) z
-above_zero z f = rw (to_z-of_z w16 z f)
 
 -- the number is that of the definition
 kind : (t : Tokens) (number : ℕ) → SFits w16 t.least → SFits w16 t.balance
