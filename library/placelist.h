@@ -28,8 +28,8 @@
  *   - Every pointer is valid for its length, which counts elements and not bytes, and is aligned for
  *     its type. No buffer is larger than PTRDIFF_MAX bytes. Buffers that a call reads hold
  *     initialised elements; those that it writes may hold anything.
- *   - No pointer to a result is null: neither value, nor counts, least, last, missing, verdict, line,
- *     event, run or count.
+ *   - No pointer to a result is null: neither value, nor counts, least, last, missing, verdict,
+ *     line, event, run or count.
  *   - No two of the things that a call is given overlap: buffers, results and value.
  *   - While a call runs, no other thread writes to what it was given, and none reads what it writes
  *     to.
@@ -300,8 +300,8 @@ uint8_t placelist_check(uint8_t activities, const uint8_t *text, size_t text_len
  *   last             [end] the balance after the trace: -254 to 254. Above 0 the trace overfeeds the
  *                    place
  *   missing          the first event at which a token is missing, that is, at which the balance,
- *                    taken as for least, is below 0: its index, 0 to 253. PLACELIST_NONE where there
- *                    is none, and so exactly where least is 0
+ *                    taken as for least, is below 0: its index, 0 to 253. PLACELIST_NONE where
+ *                    there is none, and so exactly where least is 0
  *
  * Refusals, in order: 1 (activities), 7 (value 0), 6, then of the first faulty line 5, 2, 3 or 4.
  */
@@ -321,11 +321,12 @@ uint8_t placelist_replay(uint8_t activities, const uint8_t *text, size_t text_le
  *   counts           the cases that fit, that are underfed only, overfed only, and both: each is at
  *                    most 17,592,186,040,320, as their sum is
  *   verdict          an enum placelist_verdict
- *   line             the first line whose trace underfeeds the place: 0 to 4,095. PLACELIST_NONE where
- *                    no trace does, and so exactly where counts has 0 for underfed only and for both
+ *   line             the first line whose trace underfeeds the place: 0 to 4,095. PLACELIST_NONE
+ *                    where no trace does, and so exactly where counts has 0 for underfed only and
+ *                    for both
  *   event            the first event of that line at which a token is missing, as in
- *                    placelist_replay: 0 to 253. PLACELIST_NONE where there is no such line. Line and
- *                    event do not depend on the threshold
+ *                    placelist_replay: 0 to 253. PLACELIST_NONE where there is no such line. Line
+ *                    and event do not depend on the threshold
  *
  * Refusals, in order: 1 (activities, threshold), 7 (value 0), 6, then of the first faulty line 5, 2, 3
  * or 4.

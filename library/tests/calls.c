@@ -1,9 +1,9 @@
 /*
  * Every call of the header once, on worked cases, most of them of document 01: that the header
  * declares what the library has. Then where the first token is missing, large case counts, frames
- * about as short and as long as they can be, the case counts of version 1, null pointers for buffers
- * of length 0, the version and the words of the refusals. C99 and C++. Says which line failed; the
- * exit status is 0 only if none did.
+ * about as short and as long as they can be, the case counts of version 1, null pointers for
+ * buffers of length 0, the version and the words of the refusals. C99 and C++. Says which line
+ * failed; the exit status is 0 only if none did.
  */
 #include <stdio.h>
 #include <string.h>
@@ -148,7 +148,7 @@ static void report(void)
     EXPECT(memcmp(output, expected, sizeof expected - 1) == 0);
 }
 
-/* That the first trace of a log has these balances on a place, and a token missing at this event. */
+/* What replaying a log's first trace on a place answers. */
 static void expect_replay(int line, const char *log, uint16_t inputs, uint16_t outputs, int least,
                           int last, int missing)
 {

@@ -129,8 +129,8 @@ pub extern "C" fn placelist_replay(
     answer(replayed, value)
 }
 
-// Judges a place over a log at a threshold: the case counts, the verdict, and the indices of the first
-// line that underfeeds the place and of its first event at which a token is missing, or -1.
+// Judges a place over a log at a threshold: the case counts, the verdict, and the indices of the
+// first line that underfeeds the place and of its first event at which a token is missing, or -1.
 #[tactic(auto, unfolding(crate::specs::Results::counts_after, crate::specs::Results::verdict_after, crate::specs::Results::line_after, crate::specs::Results::event_after))]
 #[unsafe(no_mangle)]
 pub extern "C" fn placelist_judge(

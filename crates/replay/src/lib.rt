@@ -55,8 +55,8 @@ pub fn replay_first_trace(activities: u8, text: &[u8], place: Place) -> Result<B
     })
 }
 
-// The four case counts of a place over all frames of a log that was accepted and indexed: nothing is
-// checked or looked for again.
+// The four case counts of a place over all frames of a log that was accepted and indexed: nothing
+// is checked or looked for again.
 fn count_all(log: &IndexedLog, place: Place) -> CaseCounts
     ensures { result ≡ case_counts place (frames_of log.now.text.now) }
 {

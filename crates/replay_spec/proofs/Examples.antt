@@ -55,7 +55,8 @@ pub record TraceExamples : Type 0 where
   pub fed_before : of_trace (0 ∷ 2 ∷ 3 ∷ 1 ∷ []) (place 0x0005 0x000C) ≡ Fitting
   pub not_fed_by_itself : of_trace (0 ∷ 2 ∷ 1 ∷ []) (place 0x0004 0x0004) ≡ Underfed
 
--- in the first of these traces a token is missing from event 1 on, the most of them at events 2 and 3
+-- in the first of these traces a token is missing from event 1 on, the most of them at events 2
+-- and 3
 pub record MissingExamples : Type 0 where
   pub first_of_four : first_missing (place 0x0004 0x0030) (0 ∷ 4 ∷ 5 ∷ 2 ∷ 1 ∷ []) ≡ AtEvent 1
   pub at_first_event : first_missing (place 0x0004 0x0001) (0 ∷ 2 ∷ 1 ∷ []) ≡ AtEvent 0

@@ -26,8 +26,8 @@ impl FirstMissing {
     }
 }
 
-// The first line of a log that underfeeds a place, with the first event of its trace at which a token
-// is missing.
+// The first line of a log that underfeeds a place, with the first event of its trace at which a
+// token is missing.
 #[derive(Clone, Copy, Drop)]
 pub enum FirstUnderfed {
     NoLine,
@@ -100,8 +100,8 @@ impl Verdict {
     }
 }
 
-// What judging a place answers: its case counts, the verdict on it, and the first line that underfeeds
-// it.
+// What judging a place answers: its case counts, the verdict on it, and the first line that
+// underfeeds it.
 #[derive(Drop)]
 pub struct Judgement {
     pub counts: CaseCounts,

@@ -1,5 +1,5 @@
--- The position of the first element that passes a test: it is found where one passes and none before
--- it does, and none is found exactly where none passes.
+-- The position of the first element that passes a test: it is found where one passes and none
+-- before it does, and none is found exactly where none passes.
 -- Assumes nothing.
 use Rattle.std.specs.Prelude.{None, Some}
 use Prim.Native.Nat.{ℕ, ◌≤◌, ◌<◌}

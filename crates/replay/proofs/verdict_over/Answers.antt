@@ -1,5 +1,5 @@
--- `replay::verdict_over` meets its contract: the counts, which are small enough to be compared, give
--- the verdict.
+-- `replay::verdict_over` meets its contract: the counts, which are small enough to be compared,
+-- give the verdict.
 -- Assumes nothing.
 use mathlib.Core.Path.{◌∙◌}
 use Rattle.replay.proofs.laws.FrameByFrame.{verdict_counted, counts_bounded}

@@ -1,28 +1,27 @@
 -- What holds of the answers of replaying and judging, whatever was asked: the balances keep the
 -- ranges of document 01, the four case counts add up to N, and the first token is missing at the
--- event and on the line that are told, or nowhere: of a trace exactly if the low is not below 0, of a
--- log exactly if u is 0. An answer that is no refusal is of an accepted log, whose traces are short and whose
--- cases are all counted. An answer as defined has the number and the value of the call's refusal.
+-- event and on the line that are told, or nowhere: of a trace exactly if the low is not below 0, of
+-- a log exactly if u is 0. An answer that is no refusal is of an accepted log, whose traces are
+-- short and whose cases are all counted. An answer as defined has the number and the value of the
+-- call's refusal.
 -- Assumes nothing.
 use Rattle.std.specs.Prelude.{Option, None, Result, Ok}
 use Prim.Native.Nat.{ℕ, ◌≤◌, ◌<◌}
 use mathlib.Core.Path.{◌≡◌, sym, ap, ◌∙◌}
 use mathlib.Core.Bool.{false}
-use mathlib.Core.List.{List, [], ◌∷◌}
+use mathlib.Core.List.{List}
 use mathlib.Core.Logic.{◌↔◌}
 use lib.IntN.{pos}
 use lib.Signed.{lt_z}
 use native.Mathlib.Omega.{arith}
-use lib.ListN.{length, get_or}
-use Rattle.foundation.specs.Lists.{Each}
+use lib.ListN.{length}
 use Rattle.foundation.proofs.laws.Each.{each_imply, each_at}
-use Rattle.foundation.proofs.laws.Lists.{each_head}
 use Rattle.limits.specs.declared.Refusal.{Refusal}
 use Rattle.limits.specs.Refusals.{Numbered, answer_number, answer_value}
 use Rattle.limits.specs.Settings.{bound_fault, bound_and_threshold_fault}
 use Rattle.places.specs.declared.Place.{Place}
 use Rattle.places.specs.Places.{place_fault}
-use Rattle.event_log_spec.specs.Frames.{Frame, FrameUnder, WrittenLog, most_events, most_frames, total_cases}
+use Rattle.event_log_spec.specs.Frames.{WrittenLog, most_events, most_frames, total_cases}
 use Rattle.event_log_spec.specs.Lines.{frames_of}
 use Rattle.event_log_spec.specs.Checking.{log_refusal}
 use Rattle.limits.proofs.laws.AnswerNumbers.{answer_accepted, numbered}
@@ -38,7 +37,7 @@ use Rattle.replay_spec.specs.Missing.{first_underfed, MissingAt, UnderfedAt}
 use Rattle.replay_spec.specs.Answers.{first_trace, first_trace_with, replayed, replayed_with, judged, judged_with}
 use Rattle.replay_spec.proofs.laws.Extremes.{Ranges, ranges}
 use Rattle.replay_spec.proofs.laws.Counts.{counts_add_up}
-use Rattle.replay_spec.proofs.laws.FirstMissing.{nowhere, somewhere, some_line, no_line_counted}
+use Rattle.replay_spec.proofs.laws.FirstMissing.{no_frame, nowhere, somewhere, some_line, no_line_counted}
 
 -- a call that refuses nothing was lent a log
 passed_log : (settings places : Option Refusal) (A : ℕ) (text : List ℕ) → log_refusal settings places A text ≡ None
@@ -49,12 +48,7 @@ passed_log settings places A text e =
 -- the first trace of a log is short
 first_short : (A : ℕ) (text : List ℕ) → WrittenLog A (frames_of text) text → length (first_trace text) ≤ most_events
 unfolding first_trace_with
-first_short A text w = go (frames_of text) w.some_frame w.each
-  where
-    go : (frames : List Frame) → 1 ≤ length frames → Each (FrameUnder A) frames
-        → length (get_or frames 0 (record { cases = 0; trace = [] })).trace ≤ most_events
-    go [] some_frame under = absurd (omega arith)
-    go (f ∷ frames) some_frame under = (each_head under).short
+first_short A text w = (each_at 0 no_frame w.each (omega (arith, w.some_frame))).short
 
 module _ (A : ℕ) (text : List ℕ) (p : Place) where
   pub replayed_ranges : (b : Balances) → replayed A text p ≡ Ok b → Ranges b.least b.last
@@ -113,7 +107,7 @@ module _ (A T : ℕ) (text : List ℕ) (p : Place) where
   judged_somewhere j e line k at =
       let log = judged_log j e in
       let told = (some_line p (frames_of text) line k).0 (judged_line j e ∙ at) in
-      let under = each_at line (record { cases = 0; trace = [] }) log.each told.in_log in
+      let under = each_at line no_frame log.each told.in_log in
       (told, omega (arith, told.in_log, log.few_frames), omega (arith, told.missing.in_trace, under.short))
 
   pub judged_numbered : {r : Result Judgement Refusal} → r ≡ judged A T text p

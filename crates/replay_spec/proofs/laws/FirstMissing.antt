@@ -108,12 +108,13 @@ no_event_on : (l : ℕ) (m : FirstMissing) → on_line l m ≡ NoLine → m ≡ 
 no_event_on l NoEvent e = refl
 no_event_on l (AtEvent j) e = cc
 
+-- what stands beyond the last frame
+abbrev pub no_frame : Frame
+no_frame = frame_in [] 0
+
 module _ (p : Place) (frames : List Frame) where
   abbrev underfed : Frame → Bool
   underfed f = underfeeds f.trace p
-
-  abbrev no_frame : Frame
-  no_frame = record { cases = 0; trace = [] }
 
   -- no line is told exactly if none underfeeds the place
   pub no_line : (first_underfed p frames ≡ NoLine) ↔ Each (λ (f : Frame). underfeeds f.trace p ≡ false) frames

@@ -1,13 +1,12 @@
--- `replay::missing::find_underfed` meets its contract: a line in whose trace a token is missing, and
--- before which no line underfeeds the place, is the first that does; else the next one's turn comes,
--- until there is none.
+-- `replay::missing::find_underfed` meets its contract: a line in whose trace a token is missing,
+-- and before which no line underfeeds the place, is the first that does; else the next one's turn
+-- comes, until there is none.
 -- Assumes nothing.
-use Prim.Native.Nat.{ℕ, ◌+◌, ◌<◌}
+use Prim.Native.Nat.{ℕ, suc, ◌+◌, ◌<◌}
 use native.Mathlib.Omega.{arith}
 use mathlib.Core.Path.{sym, ◌∙◌}
-use lib.Dec.{eqb}
-use borrow.Author.Tests.{eqb-true, eqb-false}
-use Rattle.foundation.proofs.laws.Booleans.{by_test}
+use Rattle.foundation.specs.Lists.{each_nil, each_cons}
+use Rattle.foundation.proofs.laws.Each.{each_append, each_up_to, up_to_each}
 use Rattle.event_log_spec.specs.Lines.{frames_of, frame_at}
 use Rattle.event_log.proofs.laws.FrameDigits.{frame_digits}
 use Rattle.event_log.proofs.laws.IndexedFrames.{frame_under}
@@ -17,7 +16,7 @@ use Rattle.replay.proofs.missing.find_underfed.Goals as goal
 -- what holds of the lines before one and of that one
 one_more : {P : ℕ → Type 0} {line : ℕ} → ((earlier : ℕ) → earlier < line → P earlier) → P line → (earlier : ℕ) → earlier < line + 1 → P earlier
 one_more {P} {line} before here earlier less =
-    by_test (eqb earlier line) (λ t. rw (eqb-true earlier line t) here) (λ f. before earlier (omega (arith, less, eqb-false earlier line f)))
+    up_to_each (suc line) (each_append (each_up_to line before) (each_cons here each_nil)) earlier (omega (arith, less))
 
 pub first_missing-missing-requires : goal.first_missing-missing-requires
 first_missing-missing-requires c =

@@ -1,5 +1,5 @@
--- `replay::missing::first_underfed` meets its contract: every frame of a log has a case, so where no
--- case is underfed no line underfeeds the place.
+-- `replay::missing::first_underfed` meets its contract: every frame of a log has a case, so where
+-- no case is underfed no line underfeeds the place.
 -- Assumes nothing.
 use native.Mathlib.Omega.{arith}
 use mathlib.Core.Path.{sym, ap, ◌∙◌}
