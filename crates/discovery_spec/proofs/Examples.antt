@@ -19,7 +19,7 @@ use Rattle.discovery_spec.specs.declared.End.{End}
 use Rattle.discovery_spec.specs.declared.End.TheVariants.{Completed, BudgetSpent, ListFull}
 use Rattle.discovery_spec.specs.declared.Run.{Run}
 use Rattle.discovery_spec.specs.Rejected.{rejected_word, mark_in, rules_underfed, rules_overfed, ruled}
-use Rattle.discovery_spec.specs.Search.{Capacity, holding}
+use Rattle.discovery_spec.specs.Search.{end_number, Capacity, holding}
 use Rattle.discovery_spec.specs.Discovery.{discovered, found_after, rejected_after}
 use Rattle.discovery_spec.proofs.Opened.{opened}
 
@@ -60,6 +60,7 @@ abbrev figure1 : Capacity → Result Run Refusal
 figure1 room = discovered (settings 6 2 1) figure1_log room
 
 pub record RunExamples : Type 0 where
+  pub ends : map end_number (Completed ∷ BudgetSpent ∷ ListFull ∷ []) ≡ 0 ∷ 1 ∷ 2 ∷ []
   pub completed : either (holding 56 56 56) ≡ ran Completed 2 21 23 29
   -- the second place found, from 2 and 3 to the end, would be lost by pruning after the underfed
   -- verdict on 2 alone
@@ -101,6 +102,7 @@ pub run_examples : RunExamples
 unfolding opened
 run_examples =
     record {
+      ends = refl;
       completed = refl;
       found = refl;
       small_cache = refl;

@@ -12,6 +12,7 @@ use Rattle.limits.specs.Refusals.{answered}
 use Rattle.places.specs.Candidates.{candidates}
 use Rattle.event_log_spec.specs.Lines.{frames_of}
 use Rattle.replay_spec.specs.Judgement.{verdict}
+use Rattle.discovery_spec.specs.declared.End.TheVariants.{Completed, BudgetSpent, ListFull}
 use Rattle.discovery_spec.specs.Search.{Progress, holding, state_of}
 use Rattle.discovery_spec.specs.Discovery.{run, run_refusal, summary, discovered_with}
 use Rattle.discovery_spec.proofs.laws.LargerCache.{larger_cache}
@@ -25,7 +26,7 @@ same_run more = sym (larger_cache (verdict 0 (frames_of single)) 4 36 more (cand
 
 at_16 : LargeCache 16
 unfolding opened
-at_16 = record { finds = refl; answers = refl }
+at_16 = record { finds = refl; how = Completed; answers = refl; ends = refl }
 
 from_16 : {n : ℕ} → 16 ≤ n → LargeCache n
 unfolding discovered_with
@@ -35,11 +36,13 @@ from_16 more =
       answers =
           ap (λ (p : Progress). answered (run_refusal settings single) (summary p)) (same_run more)
           ∙ at_16.answers;
+      how = at_16.how;
+      ends = at_16.ends;
     }
 
 at_15 : LargeCache 15
 unfolding opened
-at_15 = record { finds = refl; answers = refl }
+at_15 = record { finds = refl; how = Completed; answers = refl; ends = refl }
 
 from_15 : (n : ℕ) → 15 ≤ n → LargeCache n
 from_15 n more = ⊎_elim (λ e. subst LargeCache e at_15) from_16 (eq-or-lt_of_le more)
@@ -67,10 +70,10 @@ worked_cases_lem =
       m11 =
           record {
             cache_15_or_more = from_15;
-            cache_1 = record { finds = refl; answers = refl };
-            cache_0 = record { finds = refl; answers = refl };
-            cache_4_budget_4 = record { finds = refl; answers = refl };
-            cache_15_list_0 = record { finds = refl; answers = refl };
+            cache_1 = record { finds = refl; how = Completed; answers = refl; ends = refl };
+            cache_0 = record { finds = refl; how = Completed; answers = refl; ends = refl };
+            cache_4_budget_4 = record { finds = refl; how = BudgetSpent; answers = refl; ends = refl };
+            cache_15_list_0 = record { finds = refl; how = ListFull; answers = refl; ends = refl };
           };
       m12 = record { kept = refl; answers = refl };
       program = refl;

@@ -18,8 +18,7 @@ use Rattle.replay_spec.specs.declared.CaseCounts.{CaseCounts}
 use Rattle.replay_spec.specs.Judgement.{overfed_cases}
 use Rattle.replay_spec.specs.Answers.{replayed, judged}
 use Rattle.discovery_spec.specs.declared.End.{End}
-use Rattle.discovery_spec.specs.declared.End.TheVariants.{Completed, BudgetSpent, ListFull}
-use Rattle.discovery_spec.specs.Search.{holding, state_of}
+use Rattle.discovery_spec.specs.Search.{end_number, holding, state_of}
 use Rattle.discovery_spec.specs.Discovery.{run, discovered}
 use Rattle.reduction_spec.specs.Reduction.{reduced, reduced_words}
 use Rattle.reporter_spec.specs.Program.{placelist}
@@ -65,25 +64,27 @@ settings = record { activities = 3; inputs = 2; outputs = 2; threshold = 0 }
 abbrev pub found_words : List ℕ
 found_words = map word (place 0x0001 0x0002 ∷ place 0x0004 0x0002 ∷ place 0x0005 0x0006 ∷ place 0x0001 0x0004 ∷ [])
 
--- a run of M11: its shelf, its list and its allowance; what it lists; and of its answer end,
--- listed, shelved, replays and visits
-pub record M11Run (rejected_room found_room budget : ℕ) (words : List ℕ) (end : End) (found rejected replays visits : ℕ) : Type 0 where
+-- a run of M11: its shelf, its list and its allowance; what it lists; and of its answer the number
+-- of its end, listed, shelved, replays and visits
+pub record M11Run (rejected_room found_room budget : ℕ) (words : List ℕ) (end found rejected replays visits : ℕ) : Type 0 where
   pub finds :
       (state_of (run settings single (holding rejected_room found_room budget))).found ≡ words
+  pub how : End
   pub answers :
       discovered settings single (holding rejected_room found_room budget)
-      ≡ Ok (record { end = end; found = found; rejected = rejected; replays = replays; visits = visits })
+      ≡ Ok (record { end = how; found = found; rejected = rejected; replays = replays; visits = visits })
+  pub ends : end_number how ≡ end
 
 -- a shelf of 15 or more
 abbrev pub LargeCache : ℕ → Type 0
-LargeCache n = M11Run n 4 36 found_words Completed 4 15 19 36
+LargeCache n = M11Run n 4 36 found_words 0 4 15 19 36
 
 pub record M11 : Type 0 where
   pub cache_15_or_more : (n : ℕ) → 15 ≤ n → LargeCache n
-  pub cache_1 : M11Run 1 4 36 found_words Completed 4 1 34 36
-  pub cache_0 : M11Run 0 4 36 found_words Completed 4 0 36 36
-  pub cache_4_budget_4 : M11Run 4 4 4 [] BudgetSpent 0 4 4 18
-  pub cache_15_list_0 : M11Run 15 0 36 [] ListFull 0 4 5 19
+  pub cache_1 : M11Run 1 4 36 found_words 0 4 1 34 36
+  pub cache_0 : M11Run 0 4 36 found_words 0 4 0 36 36
+  pub cache_4_budget_4 : M11Run 4 4 4 [] 1 0 4 4 18
+  pub cache_15_list_0 : M11Run 15 0 36 [] 2 0 4 5 19
 
 pub record M12 : Type 0 where
   pub kept : reduced_words found_words ≡ map word (place 0x0001 0x0002 ∷ place 0x0004 0x0002 ∷ place 0x0001 0x0004 ∷ [])
