@@ -1,7 +1,7 @@
 // Which activity the search for a cover takes up next: one that the fewest words can cover.
 #![tactic(auto)]
 
-ghost use Rattle.std.specs.Prelude.{◌≡◌, ◌≤◌, ◌<◌, ◌^◌};
+ghost use Rattle.std.specs.Prelude.{ℕ, ◌≡◌, ◌≤◌, ◌<◌, ◌^◌};
 ghost use Rattle.places.specs.Sets.{has};
 ghost use Rattle.reduction_spec.specs.Cover.{usable, many_inputs, few_inputs, balanced};
 ghost use Rattle.cover_choice.specs.Choosing.{Tallied, Growable, Grown, Counts, Fewest, Chosen};
@@ -149,6 +149,7 @@ fn highest(word: u32) -> u32
     ensures known { result < WORD_ACTIVITIES }
     ensures part { 2 ^ result ≤ word }
     ensures has { has word result ≡ 1 }
+    ensures none_above { (activity : ℕ) → result < activity → has word activity ≡ 0 }
 {
     word.ilog2()
 }

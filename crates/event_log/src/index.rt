@@ -1,6 +1,6 @@
 // The index of a log's frames, made once for all that a call does with them: document 01, "Settings
 // and the log". What an entry of it holds is known in this file alone.
-ghost use Rattle.std.specs.Prelude.{◌≡◌, ◌+◌, ◌≤◌, ◌<◌, length};
+ghost use Rattle.std.specs.Prelude.{ℕ, ◌≡◌, ◌+◌, ◌≤◌, ◌<◌, List, length};
 ghost use Rattle.foundation.specs.Buffers.{overwrite};
 ghost use Rattle.limits.specs.Settings.{most_activities};
 ghost use Rattle.event_log_spec.specs.Frames.{WrittenLog, most_frames};
@@ -53,7 +53,7 @@ impl<'a> IndexedLog<'a> {
         requires { frame < length (frames_of self.now.text.now) }
         ensures { result ≡ (frame_at self.now.text.now frame).cases }
     {
-        u64::from(self.index[frame].cases)
+        frame_cases(self.index, frame)
     }
 
     // Where the activity digits of the frame after one start: behind its line feed and a count.
@@ -88,6 +88,15 @@ impl<'a> IndexedLog<'a> {
         let digits = (self.index[frame].end as usize - start) as u16;
         &self.text[start..start + usize::from(digits)]
     }
+}
+
+// The cases of a frame, whatever log the index is of.
+#[tactic(auto, using(crate::proofs::laws::IndexedFrames::found))]
+pub fn frame_cases(index: &[IndexedFrame], frame: usize) -> u64
+    requires { frame < length index.now }
+    ensures { (text : List ℕ) → Indexed text index.now → result ≡ (frame_at text frame).cases }
+{
+    u64::from(index[frame].cases)
 }
 
 // Writes the entries of an accepted log's frames from the front of a buffer that has room for as

@@ -103,6 +103,10 @@ module _ (verdict : Place → Verdict) (budget : ℕ) (c : Place) (w : RunState)
       }
       )
 
+  -- and no word rules the candidate: its turn stops the run as it is
+  pub unruled_spent : ruling_of state.rejected c ≡ None → budget ≤ w.replays → Turns (visit verdict (room_in w budget) c state) w (Err BudgetSpent) w
+  unruled_spent unruled spent = rw (not_skipped unruled) (budget_spent spent)
+
   -- the candidate is replayed
   module _
       (left : w.replays < budget)
