@@ -1,10 +1,12 @@
 // What is written, to any writer. A write that fails ends it, and its error is returned.
 #![tactic(auto)]
 
-ghost use Rattle.std.specs.Prelude.{◌≡◌, ◌≤◌, ◌<◌, length, IfOk};
+ghost use Rattle.std.specs.Prelude.{◌≡◌, ◌≤◌, ◌<◌, ◌+◌, ◌==◌, ℕ, length, map, IfOk};
 ghost use Rattle.std.specs.Borrow.{MutBor};
+ghost use Rattle.case_output.specs.Together.{progression, together};
 
 use case_notation::runs::run_length;
+use hex_digits::hex::write_hex;
 use limits::Refusal;
 use std::io;
 use std::io::Write;
@@ -39,38 +41,70 @@ pub fn answer_line<W: Write, T, F: FnOnce(&mut W, T) -> io::Result<()>>(
     }
 }
 
-// A word that is written in so many hexadecimal digits.
+// A word that is written in so many hexadecimal digits, and the number that it converts to.
 pub trait Word: Copy + Into<u64> {
     const DIGITS: usize;
+
+    ghost number: { Self → ℕ };
+
+    ghost converts_to_number: { (word : Self) (converted : ℕ)
+        → Self.converts word converted → converted ≡ number word };
 }
 
 // A word of a list.
 impl Word for u32 {
     const DIGITS: usize = 8;
+
+    ghost number = { λ word. word };
+
+    ghost converts_to_number = { λ word converted is. is };
 }
 
 // A word of a cache or of a summary.
 impl Word for u64 {
     const DIGITS: usize = 9;
+
+    ghost number = { λ word. word };
+
+    ghost converts_to_number = { λ word converted is. is };
 }
 
+// A word, by one write: in more digits than its kind has where it needs them.
 fn put_word<W: Write, T: Word>(out: &mut W, word: T) -> io::Result<()> {
     let word: u64 = word.into();
-    let digits = T::DIGITS;
-    write!(out, "{word:0digits$X}")
+    let mut text = [0; 16];
+    write_hex(word, &mut text);
+    let zeros = word.leading_zeros() as usize / 4;
+    let unused = text.len().saturating_sub(T::DIGITS);
+    out.write_all(&text[zeros.min(unused)..])
 }
 
-// How many words from the first on are written together: three or more that are each so much more
-// than the one before, or the first alone. Only that these are among the words is promised.
+// One word is so much more than another.
+fn is_more_by<T: Word>(before: T, word: T, step: u64) -> bool
+    ensures { result ≡ (T.number before + step == T.number word) }
+{
+    let before: u64 = before.into();
+    before.checked_add(step) == Some(word.into())
+}
+
+// How many words from the first on are each so much more than the one before.
+fn progression<T: Word>(words: &[T], step: u64) -> usize
+    ensures some { 0 < length words.now → 0 < result }
+    ensures within { result ≤ length words.now }
+    ensures run { result ≡ progression step (map T.number words.now) }
+{
+    run_length(words, |before, word| is_more_by(*before, *word, step))
+}
+
+// How many words from the first on are written together: three or more of a progression, or the
+// first alone.
 fn together<T: Word>(words: &[T], step: u64) -> usize
     requires { 0 < length words.now }
     ensures some { 0 < result }
     ensures within { result ≤ length words.now }
+    ensures run { result ≡ together step (map T.number words.now) }
 {
-    let run = run_length(words, |before, word| {
-        let before: u64 = (*before).into();
-        before.checked_add(step) == Some((*word).into())
-    });
+    let run = progression(words, step);
     if 3 <= run { run } else { 1 }
 }
 
@@ -118,12 +152,23 @@ fn put_written<W: Write>(out: &mut W, bytes: &[u8]) -> io::Result<()> {
     Ok(())
 }
 
+// How many bytes from the first on are equal.
+fn equal_bytes(bytes: &[u8]) -> usize
+    ensures some { 0 < length bytes.now → 0 < result }
+    ensures within { result ≤ length bytes.now }
+    ensures run { result ≡ progression 0 bytes.now }
+{
+    run_length(bytes, |before, byte| before == byte)
+}
+
 // Bytes, the equal ones together.
 fn put_equal_bytes<W: Write>(out: &mut W, bytes: &[u8]) -> io::Result<()> {
-    for run in bytes.chunk_by(|before, byte| before == byte) {
-        let count = run.len();
+    let mut rest = bytes;
+    while let [first, ..] = rest {
+        let count = equal_bytes(rest);
         write!(out, " {count}*")?;
-        put_byte(out, run[0])?;
+        put_byte(out, *first)?;
+        rest = &rest[count..];
     }
     Ok(())
 }
