@@ -57,11 +57,12 @@ number_examples =
       argument_read = refl;
     }
 
--- a text with a piece three times and bytes that stand for others; a list with a range, one that
--- falls and what is no word; runs of equal and of rising words
+-- a text with a piece three times and bytes that stand for others, and one with copies of no bytes; a
+-- list with a range, one that falls and what is no word; runs of equal and of rising words
 pub record UnfoldingExamples : Type 0 where
   pub text_unfolds : text_meant (bytes "000 3*2; 1_^") ≡ bytes "0002\n2\n2\n1 \r"
   pub no_text : text_meant [] ≡ []
+  pub no_bytes_copied : text_meant (bytes "7* 0") ≡ bytes "0"
   pub list_unfolds : list_meant (bytes "00020001 00000003-00000005 5-4 x") ≡ 131073 ∷ 3 ∷ 4 ∷ 5 ∷ 0 ∷ []
   pub three_equal : run_length (λ before word. before == word) (7 ∷ 7 ∷ 7 ∷ 8 ∷ []) ≡ 3
   pub two_rise : run_length (λ before word. before + 1 == word) (7 ∷ 8 ∷ 8 ∷ []) ≡ 2
@@ -73,6 +74,7 @@ unfolding_examples =
     record {
       text_unfolds = refl;
       no_text = refl;
+      no_bytes_copied = refl;
       list_unfolds = refl;
       three_equal = refl;
       two_rise = refl;

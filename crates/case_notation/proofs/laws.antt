@@ -1,7 +1,10 @@
 pub mod Parts
 pub mod Filling
+pub mod FilledParts
 pub mod Digits
 pub mod Ranges
+pub mod RisingWords
 pub mod Words
-pub mod Copies
+pub mod Pieces
+pub mod Repeats
 pub mod RunLengths

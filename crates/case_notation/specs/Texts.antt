@@ -20,6 +20,14 @@ abbrev pub copies : List ℕ → List (List ℕ)
 copies piece =
     elim (split_once 42 piece) [ None ↦ piece ∷ [] | Some (count, bytes) ↦ replicate (unwrap_or (number_of 10 count) too_many) bytes ]
 
+-- what the bytes of some copies stand for, one after the other
+abbrev pub bytes_meant : List (List ℕ) → List ℕ
+bytes_meant copies = map byte_meant (flat_map (λ bytes. bytes) copies)
+
+-- a piece stands for what the bytes of its copies do
+abbrev pub piece_meant : List ℕ → List ℕ
+piece_meant piece = bytes_meant (copies piece)
+
 -- a text stands for what the bytes of its pieces do, one after the other
 abbrev pub text_meant : List ℕ → List ℕ
 text_meant text = map byte_meant (flat_map (λ bytes. bytes) (flat_map copies (words_of text)))

@@ -2,10 +2,9 @@
 ghost use Rattle.std.specs.Prelude.{◌≡◌, ◌<◌, ◌^◌, false};
 ghost use Rattle.std.specs.Range.{range_inclusive_start, range_inclusive_end, range_inclusive_exhausted};
 ghost use Rattle.case_notation.specs.Filling.{Filled};
-ghost use Rattle.case_notation.specs.WordLists.{word_of, ends, list_meant};
+ghost use Rattle.case_notation.specs.WordLists.{word_of, ends, run_meant, list_meant};
 
 use crate::fields::{split_once, words};
-use crate::filling::fill;
 use crate::numbers::number;
 use std::ops::RangeInclusive;
 
@@ -26,11 +25,28 @@ fn run(run: &[u8]) -> RangeInclusive<u32>
     word_of(first)..=word_of(last)
 }
 
+// Puts the words of a run into a list, as many as it has room for, and answers how many, if they are
+// all.
+fn put_run(list: &mut [u32], text: &[u8]) -> Option<usize>
+    ensures { Filled list.old (run_meant text.now) list.new result }
+{
+    let (first, last) = run(text).into_inner();
+    let count = (last as usize + 1).saturating_sub(first as usize);
+    let room = count.min(list.len());
+    for (at, slot) in list[..room].iter_mut().enumerate() {
+        *slot = first + at as u32;
+    }
+    (count <= list.len()).then_some(count)
+}
+
 // Puts the words of a list into a buffer, as many as it has room for, and answers how many, if they
 // are all.
-#[tactic(auto, using(crate::proofs::laws::Ranges::few_left))]
 pub fn unfold(text: &[u8], list: &mut [u32]) -> Option<usize>
     ensures { Filled list.old (list_meant text.now) list.new result }
 {
-    fill(list, words(text).flat_map(run))
+    let mut count = 0;
+    for word in words(text) {
+        count += put_run(&mut list[count..], word)?;
+    }
+    Some(count)
 }

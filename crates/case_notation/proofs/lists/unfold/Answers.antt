@@ -1,16 +1,17 @@
--- `case_notation::lists::unfold` meets its contract: each word of the text is a run, which gives its
--- words one after the other.
+-- `case_notation::lists::unfold` meets its contract: the words of each run go behind those of the
+-- runs before it.
 -- Assumes nothing.
-use Rattle.std.proofs.Common.{rules}
-use Rattle.std.proofs.lemmas.Iterator.Adapters.{YieldsList-from_flat_map}
-use Rattle.std.proofs.lemmas.Iterator.Consumers.{YieldsList-at}
-use Rattle.case_notation.proofs.laws.Ranges.{run_gives}
-use Rattle.case_notation.proofs.laws.Words.{words_give}
+use Rattle.std.proofs.Common.{ap}
+use Rattle.std.specs.List.{flat_map}
+use Rattle.case_notation.specs.WordLists.{run_meant}
+use Rattle.case_notation.proofs.laws.FilledParts.{one_part, part_full}
 use Rattle.case_notation.proofs.lists.unfold.Goals as goal
 
-pub returns : goal.returns
-returns c =
-    let words = YieldsList-at c.flat_map.ensures.source (words_give _ _ c.words.ensures.text c.words.ensures.blank) in
-    let runs = c.flat_map.ensures in
-    c.fill.ensures _
-    (YieldsList-from_flat_map _ _ _ _ _ _ (λ x u q k. (search rules, λ j e. YieldsList-at e (search (rules, run_gives)))) words runs.closure runs.front runs.back runs.done)
+pub returns-in_err-count : goal.returns-in_err-count
+returns-in_err-count c =
+    rw c.from_residual.ensures
+    (part_full c.loop-word.invariant _ _ (ap (flat_map run_meant) c.in-Some.ensures.steps) (rw c.in_err-count.was at c.put_run.ensures))
+
+pub loop-word-preserved : goal.loop-word-preserved
+loop-word-preserved c =
+    one_part c.loop-word.invariant _ _ (ap (flat_map run_meant) c.in-Some.ensures.steps) (rw c.in_ok-count.was at c.put_run.ensures)
