@@ -30,6 +30,7 @@ impl Uncovered<'_> {
     // that can be parts of it: the search goes over the words again and again, so it is given only
     // those, where the buffer takes all.
     #[cycle(cover)]
+    #[tactic(auto, using(crate::proofs::laws::GatheredParts::searching))]
     pub fn has_cover(self, parts: &mut [u32]) -> bool
         ensures answer { let of = self.entry.rest in
             (result ≡ true) ↔ Cover of.words.now of.whole of.left }

@@ -38,6 +38,7 @@ fn keep_irredundant(words: &[u32], kept: &mut [u32]) -> usize
 
 // Writes the words of a list whose places are not redundant into a second buffer, in their order,
 // and answers how many they are.
+#[tactic(auto, using(crate::proofs::laws::Checks::call_checks), unfolding(crate::proofs::laws::Checks::answer_opened))]
 pub fn reduce(words: &[u32], kept: &mut [u32]) -> Result<usize, Refusal>
     ensures answer { result ≡ reduced words.now (length kept.old) }
     ensures list { kept.new ≡ reduced_after words.now kept.old }

@@ -49,6 +49,7 @@ pub fn write_lines(words: &[u32], text: &mut [u8]) -> usize
 // Document 01's writer: turns the words of a list into their lines, and answers how many bytes that
 // makes. Bytes behind the lines stay what they were, and a refused call changes nothing. The bytes
 // of a list may be more than a number holds, so the room is divided.
+#[tactic(auto, using(crate::proofs::laws::Refusals::call_checks), unfolding(crate::proofs::laws::Refusals::answer_opened))]
 pub fn write_places(words: &[u32], text: &mut [u8]) -> Result<usize, Refusal>
     ensures answer { result ≡ written words.now (length text.old) }
     ensures text { text.new ≡ written_after words.now text.old }

@@ -12,7 +12,7 @@ use mathlib.Core.List.{List}
 use borrow.Author.Tests.{le-leb, lt-leb, leb-true}
 use lib.Dec.{leb}
 use lib.ListN.{length, take, drop, get_or, length-append}
-use lib.Seq.{take_all}
+use lib.Seq.{take_all, length-take-le}
 use Rattle.foundation.specs.Buffers.{overwrite}
 use Rattle.std.specs.List.{filter}
 use Rattle.foundation.proofs.laws.Booleans.{by_test}
@@ -82,8 +82,16 @@ module _ (words : List ℕ) (whole left : ℕ) (before : List ℕ) {after : List
   pub gathered_listable : Listable words → Listable (take count after)
   gathered_listable places = rw front_parts (parts_listable words whole left places)
 
-  -- a search over its front says whether there is a cover
+  -- there is a cover among its front where there is one among the words
+  pub cover_gathered : Cover words whole left → Cover (take count after) whole left
+  cover_gathered cover = rw front_parts ((cover_parts left).1 cover)
+
+  pub gathered_cover : Cover (take count after) whole left → Cover words whole left
+  gathered_cover cover = (cover_parts left).0 (rw front_parts at cover)
+
+  -- so a search over its front says whether there is a cover
   pub found_gathered : {found : Bool} → (found ≡ true) ↔ Cover (take count after) whole left → (found ≡ true) ↔ Cover words whole left
-  found_gathered answers =
-      let right = rw front_parts at answers in
-      (λ e. (cover_parts left).0 (right.0 e), λ cover. right.1 ((cover_parts left).1 cover))
+  found_gathered answers = (λ e. gathered_cover (answers.0 e), λ cover. answers.1 (cover_gathered cover))
+
+-- what a search over them needs
+pub ruleset searching = (gathered_room, length-take-le, gathered_listable, cover_gathered, gathered_cover)

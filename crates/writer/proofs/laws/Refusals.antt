@@ -14,11 +14,11 @@ use Rattle.foundation.specs.Buffers.{overwrite}
 use Rattle.foundation.proofs.laws.Booleans.{by_test}
 use Rattle.limits.specs.declared.Refusal.{Refusal}
 use Rattle.limits.specs.declared.Refusal.TheVariants.{InvalidPlace, BufferTooSmall}
-use Rattle.limits.specs.Refusals.{first_refusal}
+use Rattle.limits.specs.Refusals.{first_refusal, answer_number, answer_value, number_given, value_given}
 use Rattle.limits.proofs.laws.AnswerNumbers.{AnsweredAs, refused_as, answered_as}
 use Rattle.places.specs.Places.{words_fault, words_refusal}
-use Rattle.places.proofs.laws.ListFaults.{has_room}
-use Rattle.writer.specs.Writing.{line_bytes, list_text, writing_refusal}
+use Rattle.places.proofs.laws.ListFaults.{has_room, list_checks}
+use Rattle.writer.specs.Writing.{line_bytes, list_text, writing_refusal, written, written_after}
 
 -- what a call answers and leaves in the buffer is as written
 abbrev pub WrittenAs : List ℕ → List ℕ → Result ℕ Refusal → List ℕ → Type 0
@@ -35,9 +35,9 @@ room_divided words room =
 
 module _ (words before : List ℕ) where
   -- the check of the words and of the room finds the call's refusal
-  same_refusal : words_refusal words (ltb (length before / line_bytes) (length words)) ≡ writing_refusal words (length before)
+  pub same_refusal : writing_refusal words (length before) ≡ words_refusal words (ltb (length before / line_bytes) (length words))
   unfolding writing_refusal
-  same_refusal = ap (words_refusal words) (room_divided (length words) (length before))
+  same_refusal = ap (words_refusal words) (sym (room_divided (length words) (length before)))
 
   -- what the buffer would hold
   abbrev pub lines : List ℕ
@@ -45,7 +45,7 @@ module _ (words before : List ℕ) where
 
   pub refused : {r : Refusal} → words_refusal words (ltb (length before / line_bytes) (length words)) ≡ Some r
       → WrittenAs words before (Err r) before
-  refused e = refused_as (length (list_text words)) lines before (sym same_refusal ∙ e)
+  refused e = refused_as (length (list_text words)) lines before (same_refusal ∙ e)
 
   -- refusal 7, and where there is no such fault 8
   pub invalid_refused : (index : ℕ) → words_fault 0 words ≡ Some (InvalidPlace index)
@@ -70,4 +70,12 @@ module _ (words before : List ℕ) where
 
   pub lines_written : words_refusal words (ltb (length before / line_bytes) (length words)) ≡ None
       → WrittenAs words before (Ok (length (list_text words))) lines
-  lines_written e = answered_as (length (list_text words)) lines before (sym same_refusal ∙ e)
+  lines_written e = answered_as (length (list_text words)) lines before (same_refusal ∙ e)
+
+-- what the checks of a call need
+pub ruleset call_checks = (same_refusal, fits, list_checks)
+
+-- what an answer is made of
+unfoldable pub answer_opened : Unit {0}
+unfolding written written_after answer_number answer_value number_given value_given
+answer_opened = tt

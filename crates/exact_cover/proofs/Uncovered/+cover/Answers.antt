@@ -1,36 +1,17 @@
--- The search for a cover meets its contracts: a search over the words that were gathered, or over all,
--- says whether there is one; a cover begins with a word that covers the chosen activity, so where
--- each of these fails there is none, and one that succeeds makes one with the cover of what it
--- leaves; and that has one where it is nothing, and none where it has no inputs or no outputs.
+-- The search for a cover meets its contracts: a cover begins with a word that covers the chosen
+-- activity, so where each of these fails there is none, and one that succeeds makes one with the
+-- cover of what it leaves; and that has one where it is nothing, and none where it has no inputs or
+-- no outputs. A search over the words that were gathered needs the laws alone that its function names.
 -- Assumes nothing.
 use native.Mathlib.Omega.{arith}
 use mathlib.Core.Path.{refl, sym, ap, ◌∙◌}
 use mathlib.Core.Bool.{false≢true}
 use lib.ListN.{length}
-use lib.Seq.{length-take-le}
 use Rattle.reduction_spec.proofs.laws.Covers.{usable_le, usable_fewer}
 use Rattle.cover_choice.specs.Choosing.{Chosen}
-use Rattle.exact_cover.proofs.laws.GatheredParts.{gathered_room, gathered_listable, found_gathered}
 use Rattle.exact_cover.proofs.laws.Trying.{says_no, says_yes, one_kind_left, tried_none, tried_more, tried_all, succeeds, leaves_nothing}
 use Rattle.exact_cover.proofs.Uncovered.+cover.Goals as goal
 use Rattle.exact_cover.proofs.Uncovered.+cover.Goals.{is_covered-else-word-chosen-eq1-via-then-word-chosen-eq1+then-takes+else-is_covered_after, is_covered-else-word-chosen-eq1-via-then-word-chosen-eq1+else-takes, is_covered-else-word-chosen-eq1-via-else-word-chosen-eq1}
-
-pub has_cover-slice_bounds-words-end : goal.has_cover-slice_bounds-words-end
-has_cover-slice_bounds-words-end t c = gathered_room _ _ _ _ c.in-Some.ensures.answer c.in-Some.ensures.buffer
-
-pub has_cover-slice_bounds-words-end-in-Some : goal.has_cover-slice_bounds-words-end-in-Some
-has_cover-slice_bounds-words-end-in-Some t c =
-    sym (length-take-le c.in-Some.count c.gather.new.parts (gathered_room _ _ _ _ c.in-Some.ensures.answer c.in-Some.ensures.buffer))
-
-pub has_cover-invariant_of-is_covered : goal.has_cover-invariant_of-is_covered
-has_cover-invariant_of-is_covered t c =
-    record {
-      places = gathered_listable _ _ _ _ c.in-Some.ensures.answer c.in-Some.ensures.buffer c.args.self.places;
-      some_left = c.args.self.some_left;
-    }
-
-pub has_cover-returns-in-Some-clause-answer : goal.has_cover-returns-in-Some-clause-answer
-has_cover-returns-in-Some-clause-answer t c = found_gathered _ _ _ _ c.in-Some.ensures.answer c.in-Some.ensures.buffer c.is_covered.ensures
 
 pub is_covered-returns-in_default : goal.is_covered-returns-in_default
 unfolding Chosen
