@@ -1,7 +1,12 @@
 -- Which words and bytes are written together.
 -- Assumes nothing.
-use Rattle.std.specs.Prelude.{ℕ, ◌+◌, ◌==◌, cond, leb, List}
+use Rattle.std.specs.Prelude.{ℕ, ◌+◌, ◌==◌, ◌≡◌, cond, leb, List}
 use Rattle.case_notation.specs.Runs.{run_length}
+
+-- whatever a word converts to is its number, which of the words of lists and caches is the word
+-- itself
+abbrev pub ConvertsTo : {T : Type 0} → (T → ℕ → Type 0) → (T → ℕ) → Type 0
+ConvertsTo {T} converts number = (word : T) (converted : ℕ) → converts word converted → converted ≡ number word
 
 -- how many words from the first on are each so much more than the one before
 abbrev pub progression : ℕ → List ℕ → ℕ

@@ -3,7 +3,7 @@
 
 ghost use Rattle.std.specs.Prelude.{◌≡◌, ◌≤◌, ◌<◌, ◌+◌, ◌==◌, ℕ, length, map, IfOk};
 ghost use Rattle.std.specs.Borrow.{MutBor};
-ghost use Rattle.case_output.specs.Together.{progression, together};
+ghost use Rattle.case_output.specs.Together.{ConvertsTo, progression, together};
 
 use case_notation::runs::run_length;
 use hex_digits::hex::write_hex;
@@ -41,32 +41,19 @@ pub fn answer_line<W: Write, T, F: FnOnce(&mut W, T) -> io::Result<()>>(
     }
 }
 
-// A word that is written in so many hexadecimal digits, and the number that it converts to.
+// A word that is written in so many hexadecimal digits.
 pub trait Word: Copy + Into<u64> {
     const DIGITS: usize;
-
-    ghost number: { Self → ℕ };
-
-    ghost converts_to_number: { (word : Self) (converted : ℕ)
-        → Self.converts word converted → converted ≡ number word };
 }
 
 // A word of a list.
 impl Word for u32 {
     const DIGITS: usize = 8;
-
-    ghost number = { λ word. word };
-
-    ghost converts_to_number = { λ word converted is. is };
 }
 
 // A word of a cache or of a summary.
 impl Word for u64 {
     const DIGITS: usize = 9;
-
-    ghost number = { λ word. word };
-
-    ghost converts_to_number = { λ word converted is. is };
 }
 
 // A word, by one write: in more digits than its kind has where it needs them.
@@ -81,7 +68,8 @@ fn put_word<W: Write, T: Word>(out: &mut W, word: T) -> io::Result<()> {
 
 // One word is so much more than another.
 fn is_more_by<T: Word>(before: T, word: T, step: u64) -> bool
-    ensures { result ≡ (T.number before + step == T.number word) }
+    ensures { (number : T → ℕ) → ConvertsTo T.converts number
+        → result ≡ (number before + step == number word) }
 {
     let before: u64 = before.into();
     before.checked_add(step) == Some(word.into())
@@ -91,7 +79,8 @@ fn is_more_by<T: Word>(before: T, word: T, step: u64) -> bool
 fn progression<T: Word>(words: &[T], step: u64) -> usize
     ensures some { 0 < length words.now → 0 < result }
     ensures within { result ≤ length words.now }
-    ensures run { result ≡ progression step (map T.number words.now) }
+    ensures run { (number : T → ℕ) → ConvertsTo T.converts number
+        → result ≡ progression step (map number words.now) }
 {
     run_length(words, |before, word| is_more_by(*before, *word, step))
 }
@@ -102,7 +91,8 @@ fn together<T: Word>(words: &[T], step: u64) -> usize
     requires { 0 < length words.now }
     ensures some { 0 < result }
     ensures within { result ≤ length words.now }
-    ensures run { result ≡ together step (map T.number words.now) }
+    ensures run { (number : T → ℕ) → ConvertsTo T.converts number
+        → result ≡ together step (map number words.now) }
 {
     let run = progression(words, step);
     if 3 <= run { run } else { 1 }

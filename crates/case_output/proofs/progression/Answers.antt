@@ -6,8 +6,7 @@ use Rattle.case_output.proofs.Progressions.{run_by_number}
 use Rattle.case_output.proofs.progression.Goals as goal
 
 pub returns-clause-run : goal.returns-clause-run
-returns-clause-run g c =
-    let number = g.T.Word.number in
+returns-clause-run g c number converts =
     let follows = λ (before word : ℕ). before + c.args.step == word in
     c.run_length.ensures.run (λ before word. follows (number before) (number word)) (always_returns_same _ _ _ (λ a r f' k. search rules))
     ∙ run_by_number number follows c.args.words.now
